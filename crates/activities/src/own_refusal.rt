@@ -21,7 +21,7 @@ impl OwnRefusal {
         OwnRefusal { number }
     }
 
-    /// Its number.
+    /// The refusal's number.
     pub fn number(self) -> u8
         ensures { result ≡ own_number self }
     {

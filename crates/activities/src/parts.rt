@@ -7,7 +7,7 @@ pub trait Parts {
     ghost use Rattle.std.specs.Prelude.{Option};
     ghost use Rattle.base.specs.Entity.{Entity};
 
-    /// Which states may follow one where this sender's input is taken in; a seat is none.
+    /// Which states may follow one where this sender's input is processed; a seat is none.
     ghost follows: { Option Entity → Self → Self → Type 0 };
 }
 
@@ -18,14 +18,14 @@ impl<T> Parts for Option<T> {
     ghost follows = { λ _ _ _. ⊤ };
 }
 
-/// So is a number,
+/// A number is written as a whole.
 impl Parts for u64 {
     ghost use Rattle.std.specs.Prelude.{⊤};
 
     ghost follows = { λ _ _ _. ⊤ };
 }
 
-/// and whether something is.
+/// A truth value is written as a whole.
 impl Parts for bool {
     ghost use Rattle.std.specs.Prelude.{⊤};
 

@@ -59,9 +59,11 @@ impl Account {
         }))
             (λ a. (a ≡ record { limit = limit; billed = billed; held = held; lines = lines }) × IsAccountSound a) }
     {
+        // In this order: each difference is of numbers that were compared before it.
         if billed > limit
             || limit > MAX_NUMBER
             || held > limit - billed
+            // The totals last: they go through all lines.
             || lines.total(LinePhase::Held) != Some(held)
             || lines.total(LinePhase::Done) != Some(billed)
         {
@@ -97,7 +99,7 @@ impl Account {
         self.held
     }
 
-    /// An equal account, which shares its lines with this one. It takes no memory.
+    /// An equal account, which shares its lines with this one. It allocates nothing.
     ///
     /// # Errors
     /// Where the lines have too many owners to count: 2^63 - 1.
@@ -120,6 +122,7 @@ impl Account {
         if limit > MAX_NUMBER {
             return Err(Refusal::OutOfRange);
         }
+        // The two fit into the old limit, 2^40 at most: their sum doesn't overflow.
         if limit < self.billed + self.held {
             return Err(Refusal::BelowUse);
         }
@@ -149,21 +152,25 @@ impl Holder for Account {
     }
 
     fn fits(&self, number: Number) -> bool {
+        // The limit covers what is billed and held, so the difference is there.
         number.get() <= self.limit - self.billed - self.held
     }
 
     fn hold(&mut self, order: Entity, number: Number) -> Result<(), AllocError> {
+        // The line first: it allocates, and where that fails the numbers are as they were.
         self.lines.insert(order, number, LinePhase::Held)?;
         self.held += number.get();
         Ok(())
     }
 
     fn refuse(&mut self, order: Entity, number: Number) -> Result<(), AllocError> {
+        // A refused order has a line too: a request that is redelivered finds it, and isn't answered anew.
         self.lines.insert(order, number, LinePhase::Refused)?;
         Ok(())
     }
 
     fn finish(&mut self, order: &Entity, number: Number) -> Result<(), AllocError> {
+        // The line first: it allocates, and where that fails the numbers are as they were.
         self.lines.set_phase(order, LinePhase::Done)?;
         let number = number.get();
         self.held -= number;

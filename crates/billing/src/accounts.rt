@@ -12,10 +12,10 @@ use base::Kind;
 use std::alloc::{AllocError, Global};
 use trade::{AccountCommand, take_line_message};
 
-/// What billing does with what its accounts take in.
+/// What billing does with what its accounts process.
 ///
 /// An account holds what an order asks for where its limit leaves as much, and keeps a line for the order: held, and
-/// then billed or released; or refused. Only what changes a line wants memory.
+/// then billed or released; or refused. Only what changes a line allocates.
 pub struct Accounts;
 
 impl Handler for Accounts {

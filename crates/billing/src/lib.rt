@@ -1,8 +1,9 @@
-//! Accounts: what the service billing does with what they take in.
+//! Accounts: what the service billing does with what they process.
 //!
 //! The code is the table of accounts' reactions: what an order asks for is held where the limit leaves as much, and
 //! refused where not; a confirm bills what is held, and a cancel sets it free. Nothing of the limit is used twice,
-//! whatever comes. After a refusal or want of memory nothing has changed, and only what changes a line wants memory.
+//! whatever comes. After a refusal, or if an allocation fails, nothing has changed, and only what changes a line
+//! allocates.
 //!
 //! ```rust
 //! pub fn so_much_is_the_limit(alloc: Global, amount: u64) -> Result<u64, HandlerFault> {

@@ -7,6 +7,7 @@ use Rattle.broker_book.specs.Books.{Book}
 use Rattle.broker_book.specs.Steps.{Handed, Deals, act_of, then_all, holder, apply_of}
 use Rattle.broker_book.specs.Runs.{BookEvent, Puts, Hands, Acks, Nacks, BookStep, Run, ShowsAs, ShowAs, numbers_covered}
 
+-- deals are a run of the book
 pub deals_run : (old new : Book) (handed : List Handed) → Deals old handed new → Run old (map Hands handed) new
 deals_run old new [] h = h
 deals_run old new (d ∷ ds) h = (h.0, h.1, deals_run h.0 new ds h.2)
@@ -41,6 +42,7 @@ one_more full session old new a actions (Ok mid) more is h =
 one_more full session old new a actions (Err fault) more is h =
     let e = none_behind full session actions fault in absurd cc
 
+-- a session's actions, done together, are a run that shows each of them in order
 pub actions_run : (full session : ℕ) (old new : Book) (actions : List Action)
     → apply_of full session old actions ≡ Ok new
     → (events : List BookEvent) × ShowAs full session actions events × Run old events new
@@ -49,6 +51,7 @@ actions_run full session old new (a ∷ actions) h =
     one_more full session old new a actions (act_of full session old a) (λ mid k. actions_run full session mid new
     actions k) refl h
 
+-- a run and one after it are a run
 pub runs_join : (old mid new : Book) (events more : List BookEvent) → Run old events mid → Run mid more new
     → Run old (events ++ more) new
 runs_join old mid new [] more h k = rw h at k

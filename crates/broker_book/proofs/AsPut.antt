@@ -108,6 +108,7 @@ module _ (P : Accepted → Type 0) where
       let rest = run_passes events h.0 new h.2 first.0 (rw last split.1) in
       (rest.0, pass-append (handed_by e) (handed_in events) first.1 rest.1)
 
+-- what holds of each SEND with its number holds of each message that lives or was delivered
 pub each_as_put : (p : Accepted → Bool) (events : List BookEvent) (b : Book) → Run empty_book events b
     → AllPass p (numbered 0 (put_in events)) → AllPass p (map as_accepted b.living) × AllPass p (handed_in events)
 each_as_put p events b h now = run_passes (λ a. p a ≡ true) events empty_book b h tt now

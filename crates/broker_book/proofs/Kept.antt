@@ -139,6 +139,7 @@ run_kept (e ∷ events) old new before h k =
 start_kept : IsKept empty_book []
 start_kept n = grind (arith, nat_tests)
 
+-- along a run from the empty book no message is lost, and none is there twice
 pub messages_kept : (events : List BookEvent) (b : Book) → Run empty_book events b → IsKept b (ended_in events)
 messages_kept events b h = run_kept events empty_book b [] h start_kept
 
@@ -147,6 +148,7 @@ messages_kept events b h = run_kept events empty_book b [] h start_kept
 either_one : (a b n last : ℕ) → 1 ≤ n → n ≤ last → a + b ≡ due n last → nat_lt 0 a ≡ not (nat_lt 0 b)
 either_one a b n last low high h = grind (arith, nat_tests)
 
+-- each number that was given is that of a living message or of an ended one, and not of both
 pub nothing_lost : (events : List BookEvent) (b : Book) → Run empty_book events b → (n : ℕ) → 1 ≤ n → n ≤ b.last
     → list_any (is_numbered n) b.living ≡ not (list_any (λ e. e == n) (ended_in events))
 nothing_lost events b h n low high =

@@ -30,6 +30,7 @@ deal_known p old d new h k =
     let s = known_split p h.front h.back h.message (subst (λ l. IsKnown p l) h.found k) in
     (ap p h.sent ∙ s.1, rw h.changed (known_append p h.front _ s.0 (left_known p h.message d.to d.ack h.back s.1 s.2)))
 
+-- what holds of each living message's SEND holds of each one that is delivered
 pub deals_known : (p : Sent → Bool) (old new : Book) (ds : List Handed) → Deals old ds new → IsKnown p old.living
     → AreKnown p ds × IsKnown p new.living
 deals_known p old new [] h k = (tt, rw h k)

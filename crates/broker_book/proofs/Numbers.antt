@@ -107,6 +107,7 @@ run_counts (e ∷ events) old new h =
       rest.1 ∙ last,
     )
 
+-- the SENDs that were accepted are those that were put, in order, numbered from 1
 pub each_accepted_once : (events : List BookEvent) (b : Book) → Run empty_book events b
     → (taken_in events ++ b.accepted ≡ numbered 0 (put_in events)) × (b.last ≡ length (put_in events))
 each_accepted_once events b h =

@@ -414,5 +414,6 @@ start_orderly = record {
   named = λ session id. omega arith;
 }
 
+-- after any run from the empty book: numbers in order, deliveries and names unique
 pub books_orderly : (events : List BookEvent) (b : Book) → Run empty_book events b → IsOrderly b
 books_orderly events b h = run_orderly events empty_book b h start_orderly

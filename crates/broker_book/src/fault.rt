@@ -15,7 +15,7 @@ pub enum QueueFault {
     /// The destination has as many messages as it may have.
     #[error("32 QueueFull: the destination holds no more messages")]
     QueueFull,
-    /// A growth was refused.
+    /// An allocation failed.
     #[error("34 Memory: out of memory")]
     Memory,
     /// No number is left for a message.
@@ -36,7 +36,7 @@ impl QueueFault {
         }
     }
 
-    /// The name of the fault, as an ERROR tells it behind the number.
+    /// The name of the fault, as an ERROR tells it after the number.
     pub fn name(self) -> &'static str
         ensures { result.now ≡ queue_fault_name self }
     {

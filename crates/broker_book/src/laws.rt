@@ -7,23 +7,23 @@ ghost use Rattle.broker_book.specs.Laws.{ActionsAreRuns, BooksAreOrderly, DealsA
 ghost use Rattle.broker_book.specs.Laws.{EachIsAsPut};
 ghost use Rattle.broker_book.specs.Laws.{MessagesAreKept, NothingIsLost, RunsJoin};
 
-/// What goes out was put in: whatever holds of each living message's SEND holds of each one that is handed out, and of
+/// What goes out was put in: whatever holds of each living message's SEND holds of each one that is delivered, and of
 /// what lives then.
 pub fn deliveries_are_known()
     ensures { DeliveriesAreKnown }
 {}
 
-/// What a dispatch hands out is a run of deals, and what a session's actions do together, as a COMMIT's, is a run that
-/// shows each of them in order. A run and one behind it are a run.
+/// What a dispatch delivers is a run of deals, and what a session's actions do together, as a COMMIT's, is a run that
+/// shows each of them in order. A run and one after it are a run.
 pub fn steps_are_runs()
     ensures deals { DealsAreRuns }
     ensures actions { ActionsAreRuns }
     ensures joined { RunsJoin }
 {}
 
-/// After any run from the empty book: messages stand in order of their numbers; no delivery number is out twice, and
-/// none that wasn't given; what is out is out to a subscription that is there; and no session has two subscriptions of
-/// one name.
+/// After any run from the empty book: messages are in order of their numbers; no delivery number is out twice, and none
+/// that wasn't given; what is out is out to a subscription that is there; and no session has two subscriptions of one
+/// name.
 pub fn books_are_orderly()
     ensures { BooksAreOrderly }
 {}
@@ -43,7 +43,7 @@ pub fn each_is_accepted_once()
 {}
 
 /// Along any run from the empty book, messages stay what they were put as: whatever holds of each SEND that was put,
-/// with its number, holds of each living message, and of each that was handed out. So a number always stands for one
+/// with its number, holds of each living message, and of each that was delivered. So a number always stands for one
 /// SEND, the one that it was given to.
 pub fn each_is_as_put()
     ensures { EachIsAsPut }

@@ -14,7 +14,7 @@ pub struct Sent {
     pub destination: Text,
     /// The headers that its MESSAGEs take over, in order.
     pub headers: Headers,
-    /// Its body.
+    /// The body of the SEND.
     pub body: Octets,
 }
 
@@ -53,7 +53,7 @@ impl Mode {
 pub struct Subscription {
     /// The session's number.
     pub session: u64,
-    /// Its name within the session.
+    /// The subscription's name within the session.
     pub id: Shared<Text>,
     /// Where it listens.
     pub destination: Shared<Text>,
@@ -66,10 +66,11 @@ impl Subscription {
     pub fn is_named(&self, session: u64, id: &Text) -> bool
         ensures { result ≡ is_named session id.now self.now }
     {
+        // The number first: names are compared within a session alone.
         self.session == session && self.id.get().same(id)
     }
 
-    /// The same subscription; its texts are shared, so that it takes no memory.
+    /// An equal subscription; its texts are shared, so that it allocates nothing.
     ///
     /// # Errors
     /// Where a text has too many owners to count.

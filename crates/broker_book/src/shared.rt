@@ -9,6 +9,7 @@ use std::rc::Rc;
 /// A value that several owners share without a copy: contracts see the value.
 #[derive(Debug, Drop)]
 pub struct Shared<T> {
+    // Counted references: a SEND is in memory once, so that a COMMIT that finds no memory has lost nothing.
     value: Rc<T>,
 }
 
@@ -22,7 +23,7 @@ impl<T> Shared<T> {
     /// The value with a first owner.
     ///
     /// # Errors
-    /// Where memory is refused; the value is given back.
+    /// If an allocation fails; the value is returned.
     pub fn new(alloc: Global, value: T) -> Result<Shared<T>, AllocFailed<T>>
         ensures ok { IfOk result (λ shared. shared ≡ value) }
         ensures err { IfErr result (λ failed. failed.value ≡ value) }
@@ -42,7 +43,7 @@ impl<T> Shared<T> {
 }
 
 impl<T: Drop> Shared<T> {
-    /// A further owner of the value. It takes no memory.
+    /// A further owner of the value. It allocates nothing.
     ///
     /// # Errors
     /// Where there are too many owners to count, `usize::MAX`.

@@ -8,6 +8,7 @@ use crate::{Action, Sent};
 use stomp_frame::Header;
 
 /// What keeping a message takes besides its own octets: its places in the queues, and what memory is asked for.
+// A message of 100 octets that waits takes some 620.
 pub const MESSAGE_OVERHEAD: u64 = 512;
 
 /// What keeping an action takes besides the message of a SEND.
@@ -19,6 +20,7 @@ fn headers_octets(headers: &[Header]) -> u64
 {
     let mut octets: u64 = 0;
     for header in headers {
+        // Modulo 2^64, as contracts count: no frame has so many octets.
         octets = octets
             .wrapping_add(header.name().len() as u64)
             .wrapping_add(header.value().len() as u64);
@@ -40,7 +42,7 @@ impl Sent {
 }
 
 impl Action {
-    /// What it is counted as: a SEND as its message, and what keeping it takes.
+    /// What the action is counted as: a SEND as its message, and what keeping it takes.
     pub fn octets(&self) -> u64
         ensures { result ≡ action_octets self.now % 2 ^ 64 }
     {

@@ -28,6 +28,7 @@ unanswered book new s id connected =
     let with_server = λ (server : Bool). part new (record s { server = server }) in
     ap with_out (append-nil s.out) ∙ ap with_fresh (no_more s.fresh) ∙ ap with_server (sym connected)
 
+-- an ACK that was done at once is served as its request would have been
 pub acked : (full : ℕ) (book new : Book) (s : Session) (f : Content) (id : List ℕ) (number : ℕ) → s.server ≡ true
     → request_of s.server f ≡ Ok (acking id) → number_of id ≡ Some number → ack_of book s.number number ≡ Ok new
     → part new s ≡ served full (answer_of s.server f) (part book s)

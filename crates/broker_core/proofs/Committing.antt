@@ -26,6 +26,7 @@ never : {A B : Type 0} (b : Bool) (x : A) (y z : B) → b ≡ true → cond {A =
 never true x y z e h = cc
 never false x y z e h = cc
 
+-- to apply a transaction's actions and then to end it is a COMMIT
 pub committed : (full session : ℕ) (r : Reach) (name : List ℕ) (actions : List Action) (book : Book)
     (ts : List Transaction)
     (answer : Result (Unit {0}) TransactionFault) → actions_of r.transactions name ≡ Some actions

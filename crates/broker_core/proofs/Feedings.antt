@@ -389,6 +389,7 @@ piece_fed c frames pieces piece n b i = record {
 
 -- ---- a call, and calls
 
+-- what a call took comes after what the calls before it took
 pub took : (full n : ℕ) (c : Bool) (frames : List Decided) (pieces : List ℕ) (old new : Server) (f : Fed)
     → Is c frames pieces n old
     → Took full n old f new
@@ -443,6 +444,7 @@ in_turn full n c frames pieces old new (f ∷ feeds) i h =
     (subst (λ l. AreFirst c l ((pieces ++ f.piece) ++ flat_map (λ (x : Fed). x.piece) feeds))
     (append_assoc frames f.frames (flat_map (λ (x : Fed). x.frames) feeds)) r)
 
+-- the frames that were handled are the first of all that a session was fed
 pub handled_first : HandledAreFirst
 handled_first full n old new feeds s h found e =
     in_turn full n s.server [] [] old new feeds (record {

@@ -136,6 +136,7 @@ unused n low last (s ∷ ss) r h =
 element_at : (ss : List Session) (i : ℕ) → i < length ss → (s : Session) × (s ≡ get_or ss i s)
 element_at ss i h = elim (slice_get_cases ss i).1 [ inl k ↦ (k.0, sym k.3) | inr k ↦ absurd (omega arith) ]
 
+-- the list of sessions is in order, so a binary search finds the session of a number
 pub searched : (n low last : ℕ) (ss : List Session) → AreRising low ss last → (r : Result ℕ ℕ)
     → IsSearchInRange r (length ss)
     → IsBinarySearchResult (λ s. nat_cmp s.number n) ss r → (answer : Option ℕ) → result_ok r ≡ answer
@@ -167,6 +168,7 @@ rising_set low last (x ∷ ss) r zero s t get e =
     rw k r
 rising_set low last (x ∷ ss) r (suc at) s t get e = (r.0, rising_set x.number last ss r.1 at s t get e)
 
+-- a session with a higher number than all others keeps the list in order
 pub rising_push : (low last : ℕ) (ss : List Session) (s : Session) → AreRising low ss last → last < s.number
     → AreRising low (ss ++ s ∷ []) s.number
 rising_push low last [] s r h = let k : low < s.number = omega arith in (k, omega arith)
@@ -182,6 +184,7 @@ others_step : (n low last : ℕ) (s : Session) (ss : List Session) (b : Bool) �
 others_step n low last s ss true e h r = rw e (lower low s.number last (others n ss) (omega arith) r)
 others_step n low last s ss false e h r = rw e (h, r)
 
+-- a list in order is in order without a session
 pub rising_others : (n low last : ℕ) (ss : List Session) → AreRising low ss last → AreRising low (others n ss) last
 rising_others n low last [] r = r
 rising_others n low last (s ∷ ss) r =
@@ -236,6 +239,7 @@ pub writing_number : {T E : Type 0} (f : Content) (s t : Session) (r : Result T 
 writing_number f s t (Ok x) ok err = ap (λ (y : Session). y.number) ok
 writing_number f s t (Err x) ok err = ap (λ (y : Session). y.number) err
 
+-- a session that takes a piece keeps its number
 pub piece_number : {T E : Type 0} (piece : List ℕ) (s t : Session) (r : Result T E) → SessionPieceAnswer piece s t r
     → t.number ≡ s.number
 piece_number piece s t (Ok x) h = ap (λ (y : Session). y.number) h ∙ number_if s.closed s _ refl
@@ -292,6 +296,7 @@ stands n last ss r at s get is =
     same_item (slice_get ss at) (get_or ss at s) s (slice_get-get_or ss at s within) get in
     placed n 0 last ss r at s within here is
 
+-- to name a session with fresh octets takes just that mark away
 pub names_fresh : (book : Book) (ss news : List Session) (opened at number : ℕ) (s : Session) → AreRising 0 ss opened
     → IsFreshAt ss at
     → slice_get ss at ≡ Some s → news ≡ slice_set ss at (named s) → number ≡ s.number
@@ -312,6 +317,7 @@ found_last : (n : ℕ) (ss : List Session) (s : Session) → list_any (is_sessio
     → find (is_session n) (ss ++ s ∷ []) ≡ Some s
 found_last n ss s e h = found_between (is_session n) ss s [] e h
 
+-- to add a session with the next number is to open one
 pub opens : (book : Book) (ss : List Session) (opened : ℕ) → AreRising 0 ss opened
     → OpensSession (broker_of book (roster ss opened)) (opened + 1) (broker_of book (roster (ss
     ++ new_session (opened + 1) ∷ []) (opened + 1)))

@@ -66,6 +66,7 @@ stands_taken k old new (d ∷ ds) at h stands =
     stands_taken k h.0 new ds at h.2 (rw h.1
     (stands_with k d.to.session (writing (message_frame (delivery_of d))) (λ y i. refl) old.sessions at stands))
 
+-- a session stays at its place while a frame is handled
 pub stands_handled : (k full n : ℕ) (old new : Server) (decided : Decided) (at : ℕ) → Handles full n old decided new
     → StandsAt k old.sessions at
     → StandsAt k new.sessions at

@@ -35,6 +35,7 @@ spelled_first connected old mid new d frames w (read f front w1 s1 spells octets
       none_waits = r.none_waits;
     }
 
+-- the frames that were taken are spelled in what the session was fed
 pub spelled : TakenAreSpelled
 spelled connected old new [] t w = record {
   text = [];
@@ -120,6 +121,7 @@ taken_from : (c : Bool) (i j : Incoming) (s : Session) (frames : List Decided) (
 taken_from c i j s frames left e k t = subst (λ (x : Incoming). TakesAll c x frames left) e
     (subst (λ b. TakesAll b s.incoming frames left) k t)
 
+-- the frames that were handled were taken
 pub taken : HandledAreTaken
 taken full n old new [] s h found = record {
   left = s.incoming;

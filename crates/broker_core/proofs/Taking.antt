@@ -44,6 +44,7 @@ finds_none old new w v n = record {
   still_none = v;
 }
 
+-- the decoder's next frame is the session's, where none waits
 pub decodes : (connected : Bool) (old new : Incoming) (r : Result (Option Content) FrameFault) → old.waiting ≡ None
     → new.waiting ≡ None
     → Nexts MAX_BODY old.decoder new.decoder r → NextAnswer connected old new r
@@ -54,11 +55,13 @@ decodes connected old new (Err fault) w v n = meets old new fault refl w v n
 
 -- ---- what a fault that was answered says
 
+-- out of memory changes nothing
 pub no_memory : (connected : Bool) (old new : Incoming) (fault : FrameFault) → is_memory fault ≡ true
     → NextAnswer connected old new (Err fault) → new ≡ old
 no_memory connected old new Memory e n = n
 no_memory connected old new fault e n = cc
 
+-- any other fault of the decoder is one of the octets
 pub met : (connected : Bool) (old new : Incoming) (fault : FrameFault) → is_memory fault ≡ false
     → NextAnswer connected old new (Err fault) → MeetsFault old new
 met connected old new Memory e n = cc

@@ -38,6 +38,7 @@ pub handles_more : (full n : ℕ) (old mid new : Server) (fs : List Decided) (d 
 handles_more full n old mid new [] d e h = (new, subst (λ b. Handles full n b d new) e h, refl)
 handles_more full n old mid new (x ∷ fs) d e h = (e.0, e.1, handles_more full n e.0 mid new fs d e.2 h)
 
+-- one more frame handled is one more of the call
 pub handled_more : (full n : ℕ) (old mid new : Server) (count : ℕ) → Handled full n old count mid
     → Turned full n mid new
     → Handled full n old (count + 1) new
@@ -49,6 +50,7 @@ handled_more full n old mid new count h one = record {
       (one.frame ∷ []) in omega arith;
 }
 
+-- a call whose frames are handled until no whole one is left has done its work
 pub finished : (full n : ℕ) (piece : List ℕ) (old handled new : Server) (count : ℕ)
     → is_some (session_of n old) ≡ true
     → Handled full n (changing n (taking piece) old) count handled

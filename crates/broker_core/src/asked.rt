@@ -20,7 +20,7 @@ pub struct SharedSend {
 }
 
 impl SharedSend {
-    /// The same SEND, or it is given back where memory is refused.
+    /// The SEND with its octets shared, or the SEND as it came if an allocation fails.
     pub fn new(alloc: Global, send: Send) -> Result<SharedSend, Send>
         ensures ok { IfOk result (λ s. send_in s ≡ Request.Send send) }
         ensures err { IfErr result (λ s. s ≡ send) }
@@ -72,6 +72,7 @@ pub enum Form {
 impl Drop for Form {
     fn drop(self) {
         match self {
+            // With a derived `drop` this crate took 296 seconds of CPU time to prove, and 227 with this one.
             Form::Whole(_request) => {}
             Form::Shared(_send) => {}
         }
@@ -79,9 +80,8 @@ impl Drop for Form {
 }
 
 impl Form {
-    /// The same request, of which nothing more has to be moved: a SEND is shared, so that a queue and a transaction
-    /// take a share of its octets, however large they are, and it can still be given back where memory is refused to
-    /// one.
+    /// The request with nothing left to be moved: a SEND is shared, so that a queue and a transaction take a share of
+    /// its octets, however large they are, and it can still be returned if an allocation fails after that.
     pub fn share(self, alloc: Global) -> Result<Form, Form>
         ensures ok { IfOk result (λ f. (request_in f ≡ request_in self) × (is_ready f ≡ true)) }
         ensures err { IfErr result (λ f. request_in f ≡ request_in self) }
@@ -144,7 +144,7 @@ impl Asked {
         Asked { form }
     }
 
-    /// Its form.
+    /// The form of the request.
     pub fn into_form(self) -> Form
         ensures { request_in result ≡ self }
     {

@@ -24,6 +24,7 @@ pub struct Broker<const FULL: usize> {
     queues: Queues<FULL>,
     sessions: Sessions,
     /// Of the frame that ended a session at the last feed: for people to read, so contracts don't see it.
+    // Otherwise the state of all laws would change for a line of a log.
     detail: Option<Detail>,
 }
 
@@ -32,6 +33,7 @@ pub struct Broker<const FULL: usize> {
 impl<const FULL: usize> Drop for Broker<FULL> {
     fn drop(self) {
         let Broker {
+            // A program of four lines took 74 seconds to prove with a derived `drop`, and 32 with this one.
             queues: _queues,
             sessions: _sessions,
             detail: _detail,
@@ -48,7 +50,7 @@ impl<const FULL: usize> Model for Broker<FULL> {
 }
 
 impl<const FULL: usize> Broker<FULL> {
-    /// A broker with no session and no message. It takes no memory.
+    /// A broker with no session and no message. It allocates nothing.
     pub fn new(alloc: Global) -> Self
         ensures { result ≡ empty }
     {
@@ -64,7 +66,7 @@ impl<const FULL: usize> Broker<FULL> {
     /// # Errors
     /// Nothing has changed then:
     /// - `TooMany` where 2^64 - 1 sessions were opened;
-    /// - `Memory` where a growth was refused.
+    /// - `Memory` if an allocation fails.
     pub fn open(&mut self) -> Result<SessionId, BrokerFault>
         ensures { OpenAnswer self.old self.new result }
     {
@@ -72,7 +74,7 @@ impl<const FULL: usize> Broker<FULL> {
     }
 
     /// Feeds a piece of a client's octets to its session, handles the frames that are whole now, one after another, and
-    /// deals messages behind each frame and at the end. The answer is the number of frames. A closed session throws the
+    /// deals messages after each frame and at the end. The answer is the number of frames. A closed session throws the
     /// piece away.
     ///
     /// A frame is done or refused as a whole. It is answered in the octets of its session: by CONNECTED, by the RECEIPT
@@ -81,15 +83,17 @@ impl<const FULL: usize> Broker<FULL> {
     ///
     /// # Errors
     /// - `NoSession` where there is no session of this number, and then nothing has changed;
-    /// - `Memory` where a growth was refused. Where the piece was not taken nothing has changed. Where it was, the
-    ///   frames before were handled, and the next call goes on where this one has stopped: `feed` with no octets then
-    ///   serves. No frame is lost or handled twice.
+    /// - `Memory` if an allocation fails. Where the piece was not taken nothing has changed. Where it was, the frames
+    ///   before were handled, and the next call goes on where this one has stopped: `feed` with no octets then serves.
+    ///   No frame is lost or handled twice.
     pub fn feed(&mut self, session: SessionId, piece: &[u8]) -> Result<usize, BrokerFault>
         ensures { FeedAnswer FULL self.old session piece.now self.new result }
     {
+        // Looked up once, where it was eight times for one frame: no step and no deal moves a session.
         let Some(at) = self.sessions.place(session.number()) else {
             return Err(BrokerFault::NoSession);
         };
+        // A detail is of one feed: what an earlier one found doesn't stay.
         self.detail = None;
         // Each turn takes an octet or the frame that waits, so that the bound is never reached: it shows that the loop
         // ends.
@@ -108,23 +112,23 @@ impl<const FULL: usize> Broker<FULL> {
 
     /// What was wrong with the frame that ended the session at the last [`feed`](Broker::feed), where that is more than
     /// its ERROR tells: which header is missing, or why its octets are no frame. It is for a log: no contract says what
-    /// it is, but that asking changes nothing. It takes no memory.
+    /// it is, but that asking changes nothing. It allocates nothing.
     pub fn detail(&self) -> Option<Detail> {
         self.detail
     }
 
-    /// Hands out messages until none can be: the lowest number that is ready first, each to the oldest subscription to
+    /// Delivers messages until none can be: the lowest number that is ready first, each to the oldest subscription to
     /// its queue that may take one more.
     ///
     /// # Errors
-    /// Where a growth was refused; what was handed out before stays so.
+    /// If an allocation fails; what was delivered before stays so.
     pub fn dispatch(&mut self) -> Result<(), AllocError>
         ensures { DispatchAnswer self.old self.new result }
     {
         self.queues.dispatch(&mut self.sessions)
     }
 
-    /// The octets for a session that were not taken yet; none where there is no such session. It takes no memory.
+    /// The octets for a session that were not taken yet; none where there is no such session. It allocates nothing.
     pub fn out(&self, session: SessionId) -> &[u8]
         ensures { result.now ≡ out_in (session_of session self.now) }
     {
@@ -134,7 +138,7 @@ impl<const FULL: usize> Broker<FULL> {
         }
     }
 
-    /// Takes the first octets for a session away. It takes no memory.
+    /// Takes the first octets for a session away. It allocates nothing.
     pub fn taken(&mut self, session: SessionId, count: usize)
         requires { count ≤ length (out_in (session_of session self.old)) }
         ensures { self.new ≡ changing session (without_first count) self.old }
@@ -142,8 +146,8 @@ impl<const FULL: usize> Broker<FULL> {
         self.sessions.taken(session.number(), count);
     }
 
-    /// Whether a session is closed, or there is none: what is still in its octets is all that it will be sent. It takes
-    /// no memory.
+    /// Whether a session is closed, or there is none: what is still in its octets is all that it will be sent. It
+    /// allocates nothing.
     pub fn is_closed(&self, session: SessionId) -> bool
         ensures { result ≡ closed_in (session_of session self.now) }
     {
@@ -154,21 +158,21 @@ impl<const FULL: usize> Broker<FULL> {
     }
 
     /// What the messages of all queues are counted as together, for a limit on memory: for each its octets, those of its
-    /// destination, headers and body, and 512 more for what keeping it takes; modulo 2^64. It takes no memory.
+    /// destination, headers and body, and 512 more for what keeping it takes; modulo 2^64. It allocates nothing.
     pub fn octets(&self) -> u64
         ensures { result ≡ held_octets self.now.book.living % 2 ^ 64 }
     {
         self.queues.octets()
     }
 
-    /// How many messages are ready: in queues, and out to nobody; modulo 2^64. It takes no memory.
+    /// How many messages are ready: in queues, and out to nobody; modulo 2^64. It allocates nothing.
     pub fn ready(&self) -> u64
         ensures { result ≡ count_by is_ready self.now.book.living % 2 ^ 64 }
     {
         self.queues.ready()
     }
 
-    /// How many messages are out, and unanswered; modulo 2^64. It takes no memory.
+    /// How many messages are out, and unanswered; modulo 2^64. It allocates nothing.
     pub fn unanswered(&self) -> u64
         ensures { result ≡ count_by (λ m. not (is_ready m)) self.now.book.living % 2 ^ 64 }
     {
@@ -177,7 +181,7 @@ impl<const FULL: usize> Broker<FULL> {
 
     /// How many deliveries that are to be answered were made so far: each has the next number, so it is the last one's. A
     /// message that came back and goes out again counts again. What goes out in mode `auto` has no number, and doesn't
-    /// count. It takes no memory.
+    /// count. It allocates nothing.
     pub fn handed_out(&self) -> u64
         ensures { result ≡ self.now.book.given }
     {
@@ -185,7 +189,7 @@ impl<const FULL: usize> Broker<FULL> {
     }
 
     /// What the open transactions of a session keep, counted in the same way: a SEND as its message, and 32 more for
-    /// each action; modulo 2^64. It is 0 where there is no such session. It takes no memory.
+    /// each action; modulo 2^64. It is 0 where there is no such session. It allocates nothing.
     pub fn kept(&self, session: SessionId) -> u64
         ensures { result ≡ kept_in (session_of session self.now) % 2 ^ 64 }
     {
@@ -195,7 +199,7 @@ impl<const FULL: usize> Broker<FULL> {
         }
     }
 
-    /// Whether a message is out to a session, and unanswered. It takes no memory.
+    /// Whether a message is out to a session, and unanswered. It allocates nothing.
     pub fn has_unanswered(&self, session: SessionId) -> bool
         ensures { result ≡ list_any (λ m. out_of session m.fate) self.now.book.living }
     {
@@ -203,14 +207,14 @@ impl<const FULL: usize> Broker<FULL> {
     }
 
     /// Takes a session away: its subscriptions end, what is out to them is ready again, and its transactions and octets
-    /// are gone. It deals nothing, and takes no memory.
+    /// are gone. It deals nothing, and allocates nothing.
     pub fn drop_session(&mut self, session: SessionId)
         ensures { self.new ≡ dropped session self.old (session_of session self.old) }
     {
         self.sessions.remove(session.number(), &mut self.queues);
     }
 
-    /// A session for which octets were written since it was last named; none where there is none. It takes no memory.
+    /// A session for which octets were written since it was last named; none where there is none. It allocates nothing.
     ///
     /// Called until it answers none, it names each session with octets to send.
     pub fn take_fresh(&mut self) -> Option<SessionId>
@@ -219,7 +223,7 @@ impl<const FULL: usize> Broker<FULL> {
         self.sessions.take_fresh()
     }
 
-    /// The SENDs that were accepted since the last call, in order. It takes no memory.
+    /// The SENDs that were accepted since the last call, in order. It allocates nothing.
     pub fn take_accepted(&mut self) -> Vec<Accepted>
         ensures accepted { result.items ≡ self.old.book.accepted }
         ensures rest { self.new ≡ record self.old { book = record self.old.book { accepted = [] } } }
@@ -234,6 +238,7 @@ impl<const FULL: usize> Broker<FULL> {
     {
         let queues = &mut self.queues;
         let stepped = self.sessions.turn(at, queues, &mut self.detail)?;
+        // After each frame and not once for all: so a RECEIPT comes before any MESSAGE that its frame causes.
         queues.dispatch(&mut self.sessions)?;
         Ok(stepped)
     }

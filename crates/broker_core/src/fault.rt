@@ -64,7 +64,7 @@ impl FrameRefusal {
         }
     }
 
-    /// The name of the refusal, as an ERROR tells it behind the number.
+    /// The name of the refusal, as an ERROR tells it after the number.
     pub fn name(self) -> &'static str
         ensures { result.now ≡ refusal_name self }
     {
@@ -87,7 +87,7 @@ impl FrameRefusal {
 /// Why a call of a broker didn't do its work.
 #[derive(Clone, Copy, Debug, PartialEq, Eq, Error)]
 pub enum BrokerFault {
-    /// A growth was refused.
+    /// An allocation failed.
     #[error("34 Memory: out of memory")]
     Memory {
         /// Whether the piece was taken before: then the next call goes on with it.
@@ -117,8 +117,8 @@ impl BrokerFault {
 /// Why a request wasn't done.
 #[derive(Clone, Copy, Debug, PartialEq, Eq)]
 pub enum HandlerFault {
-    /// It is refused.
+    /// The request is refused.
     Refused(FrameRefusal),
-    /// A growth was refused.
+    /// An allocation failed.
     Memory,
 }

@@ -11,7 +11,7 @@ use std::alloc::{AllocError, Global};
 use stomp_frame::{Decoder, Frame, FrameFault};
 use stomp_session::{Refused, Request, ServerSession};
 
-/// What waits since memory was refused to it, as it was decided, and the octets behind it.
+/// What waits since an allocation for it failed, as it was decided, and the octets after it.
 #[derive(Debug, Drop)]
 pub struct Incoming {
     pub decoder: Decoder<MAX_BODY>,
@@ -19,7 +19,7 @@ pub struct Incoming {
 }
 
 impl Incoming {
-    /// Nothing. It takes no memory.
+    /// Nothing. It allocates nothing.
     pub fn new(alloc: Global) -> Incoming
         ensures { result ≡ nothing_incoming }
     {
@@ -39,6 +39,7 @@ impl Incoming {
                 if is_memory(fault) {
                     Err(AllocError)
                 } else {
+                    // After a fault of the octets the session is closed, and what still comes is thrown away.
                     Ok(())
                 }
             }
@@ -52,6 +53,7 @@ impl Incoming {
     {
         match self.waiting.take() {
             Some(decided) => decided,
+            // Called only where something waits.
             None => unreachable!(),
         }
     }
@@ -89,7 +91,7 @@ pub fn decide(server: ServerSession, frame: Frame<MAX_BODY>) -> Result<Request, 
     }
 }
 
-/// Whether a fault is want of memory.
+/// Whether a fault is that an allocation failed.
 pub fn is_memory(fault: FrameFault) -> bool
     ensures { result ≡ is_memory fault }
 {

@@ -17,7 +17,7 @@ pub fn taken_frames_are_spelled()
 {}
 
 /// However the text of a session was cut, and whatever happened between: the frames that had their step at some calls
-/// of `feed` are the first of all that it was fed, each once and in order, also where memory was refused to some of
+/// of `feed` are the first of all that it was fed, each once and in order, also if an allocation failed in some of
 /// these calls.
 pub fn frames_are_handled_once_and_in_order()
     ensures { HandledAreFirst }

@@ -1,7 +1,7 @@
 //! A message broker of STOMP 1.2 without sockets: octets go in and come out, and nothing waits.
 //!
 //! A [`Broker`] has sessions, of which each is fed what its client sends and has octets to be sent to it, and one
-//! *book* of messages and subscriptions. A frame is handled as a whole, one behind the other as they were fed:
+//! *book* of messages and subscriptions. A frame is handled as a whole, one after the other as they were fed:
 //!
 //! - it is read and decided by its session: a request, or a refusal at once;
 //! - the request is done: exactly what its frame means for the book, or its refusal. It is answered by CONNECTED, by
@@ -10,7 +10,7 @@
 //!   queue that may take it.
 //!
 //! Each is a function or a relation of values that the contracts name, with the order of the tests and all that stays
-//! the same. Where memory is refused, a frame has either been handled or it waits, as it was decided, and is the first
+//! the same. If an allocation fails, a frame has either been handled or it waits, as it was decided, and is the first
 //! to be handled at the next call: none is lost, and none is handled twice. The laws say that what was handled is what
 //! was fed.
 //!

@@ -38,7 +38,7 @@ pub fn perform<const FULL: usize>(
     }
 }
 
-/// The same of a request that isn't a SEND.
+/// Does a request that isn't a SEND, or changes nothing.
 fn perform_whole<const FULL: usize>(
     alloc: Global,
     queues: &mut Queues<FULL>,
@@ -52,6 +52,7 @@ fn perform_whole<const FULL: usize>(
 {
     match request {
         Request::Connect(_) => Ok(()),
+        // A SEND comes in its shared form.
         Request::Send(_) => unreachable!(),
         Request::Subscribe(asked) => subscribe(alloc, queues, session, asked),
         Request::Unsubscribe(asked) => unsubscribe(queues, session, &asked.id),
@@ -69,6 +70,7 @@ fn lift(answer: Result<(), QueueFault>) -> Result<(), HandlerFault>
 {
     match answer {
         Ok(()) => Ok(()),
+        // Only this one isn't a refusal: the frame waits, and is tried again.
         Err(QueueFault::Memory) => Err(HandlerFault::Memory),
         Err(QueueFault::NoSuchAck) => Err(HandlerFault::Refused(FrameRefusal::NoSuchAck)),
         Err(QueueFault::QueueFull) => Err(HandlerFault::Refused(FrameRefusal::QueueFull)),
@@ -117,6 +119,7 @@ fn put<const FULL: usize>(
         None => lift(queues.put(&send.sent)),
         Some(name) => match send.sent.share() {
             Ok(sent) => keep(transactions, name, Action::Put(sent)),
+            // It has too many owners to count: reported as out of memory.
             Err(_) => Err(HandlerFault::Memory),
         },
     }
@@ -138,6 +141,7 @@ fn subscription(
 {
     Ok(Subscription {
         session,
+        // Copied once and shared: each delivery takes a share of the name.
         id: Shared::new(alloc, asked.id.copy(alloc)?)?,
         destination: Shared::new(alloc, asked.destination.copy(alloc)?)?,
         mode,
@@ -215,6 +219,7 @@ fn ack<const FULL: usize>(
         (reach queues.old transactions.old) (reach queues.new transactions.new) result }
 {
     let Some(name) = &asked.transaction else {
+        // Whether the delivery is out isn't asked before: the answer itself finds that, by one search.
         return match read_number(&asked.id) {
             Some(number) => lift(queues.ack(session, number)),
             None => Err(HandlerFault::Refused(FrameRefusal::NoSuchAck)),
@@ -268,6 +273,7 @@ fn commit<const FULL: usize>(
         return Err(HandlerFault::Refused(FrameRefusal::NoTransaction));
     };
     match queues.apply(session, actions) {
+        // Ended last: where the actions find no memory, the COMMIT is tried again with all of them.
         Ok(()) => lift_transaction(transactions.commit(name)),
         Err(fault) => lift(Err(fault)),
     }

@@ -38,7 +38,7 @@ pub struct Session {
 }
 
 impl Session {
-    /// A session that isn't connected. It takes no memory.
+    /// A session that isn't connected. It allocates nothing.
     pub fn new(alloc: Global, number: u64) -> Session
         ensures { result ≡ new_session number }
     {
@@ -66,7 +66,7 @@ impl Session {
     }
 
     /// Takes the next frame out of what it was fed and does what is decided; `false` where there is none, and where a
-    /// fault of the octets has ended it. Where memory is refused to what is done, the frame waits. Where what was wrong
+    /// fault of the octets has ended it. If an allocation fails for what is done, the frame waits. Where what was wrong
     /// with a frame has more to it than its refusal tells, it's put into `detail`.
     pub fn turn<const FULL: usize>(
         &mut self,
@@ -93,6 +93,7 @@ impl Session {
                 if is_memory(fault) {
                     return Err(AllocError);
                 }
+                // Nothing that comes after can be read: where the next frame would begin isn't known.
                 self.tell(alloc, queues, fault, detail)?;
                 Ok(false)
             }
@@ -158,6 +159,7 @@ impl Session {
         ensures { self.new ≡ closed_of self.old }
     {
         self.closed = true;
+        // What is written for the client stays: it's to read the RECEIPT or the ERROR.
         self.incoming = Incoming::new(alloc);
         self.transactions.clear();
     }
@@ -189,7 +191,7 @@ impl Session {
             (part queues.old self.old)) }
         ensures err { OnErr result ((queues.new ≡ queues.old) × (self.new ≡ self.old)) }
     {
-        // First, since it alone may want memory: what comes behind it is never refused.
+        // First, since it alone allocates: nothing after it can fail.
         self.out.write_error(alloc, refusal, receipt)?;
         self.fresh = true;
         queues.end(self.number);
@@ -197,7 +199,7 @@ impl Session {
         Ok(())
     }
 
-    /// Does what a frame is decided to be; where memory is refused that waits.
+    /// Does what a frame is decided to be; if an allocation fails, that waits.
     fn handle<const FULL: usize>(
         &mut self,
         alloc: Global,
@@ -217,7 +219,7 @@ impl Session {
         self.handle_whole(alloc, queues, frame, detail)
     }
 
-    /// The same of any frame.
+    /// Does what any frame is decided to be; if an allocation fails, that waits.
     fn handle_whole<const FULL: usize>(
         &mut self,
         alloc: Global,
@@ -240,7 +242,7 @@ impl Session {
         }
     }
 
-    /// Does a SEND, which is shared at once; where memory is refused it waits.
+    /// Does a SEND, which is shared at once; if an allocation fails, it waits.
     fn handle_send<const FULL: usize>(
         &mut self,
         alloc: Global,
@@ -262,6 +264,7 @@ impl Session {
                         Ok(())
                     }
                     Err(_) => {
+                        // As it is shared by now: the next attempt copies nothing.
                         self.incoming.waiting = Some(Ok(Asked::new(form)));
                         Err(AllocError)
                     }
@@ -275,7 +278,7 @@ impl Session {
         }
     }
 
-    /// Does what was decided; where memory is refused it waits.
+    /// Does what was decided; if an allocation fails, it waits.
     fn handle_decided<const FULL: usize>(
         &mut self,
         alloc: Global,
@@ -306,12 +309,14 @@ impl Session {
             return false;
         };
         match text::read_number(id) {
+            // An ACK that is refused has changed nothing: it's handled like any other frame then, and answered by an
+            // ERROR.
             Some(number) => queues.ack(self.number, number).is_ok(),
             None => false,
         }
     }
 
-    /// Does what was decided, or gives it back where memory is refused, and then nothing has changed.
+    /// Does what was decided, or returns it if an allocation fails, and then nothing has changed.
     fn serve<const FULL: usize>(
         &mut self,
         alloc: Global,
@@ -385,7 +390,7 @@ impl Session {
         ensures err { OnErr result ((queues.new ≡ queues.old) × (self.new ≡ self.old)) }
     {
         // The reply comes first: it can be taken back where the request is refused, and a request that was done can't
-        // be undone where memory is refused to its reply.
+        // be undone if an allocation for its reply fails.
         let before = self.out.len();
         let wrote = self.out.write_reply(form)?;
         match perform(alloc, queues, &mut self.transactions, self.number, form) {

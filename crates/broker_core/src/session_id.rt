@@ -28,7 +28,7 @@ impl SessionId {
         SessionId { number }
     }
 
-    /// Its number.
+    /// The session's number.
     pub fn number(self) -> u64
         ensures { result ≡ self }
     {

@@ -48,7 +48,7 @@ impl Model for Sessions {
 }
 
 impl Sessions {
-    /// No session. It takes no memory.
+    /// No session. It allocates nothing.
     pub fn new(alloc: Global) -> Sessions
         ensures { result ≡ record { sessions = []; opened = 0 } }
     {
@@ -72,6 +72,7 @@ impl Sessions {
         if push_new(&mut self.items, self.alloc, number).is_err() {
             return Err(BrokerFault::Memory { took: false });
         }
+        // Counted once it's there: where that fails the next one gets the number.
         self.opened = number;
         Ok(SessionId::new(number))
     }
@@ -129,6 +130,7 @@ impl Sessions {
     {
         match fresh_place(self.items.as_slice(), &mut self.noted) {
             Some(at) => {
+                // The caller asks for the octets of the session next.
                 self.last = at;
                 Some(self.items[at].name())
             }
@@ -158,6 +160,7 @@ impl Sessions {
         ensures { (n : ℕ) → StandsAt n self.old.sessions at
             → StepAnswer FULL n (broker_of queues.old self.old) (broker_of queues.new self.new) result }
     {
+        // A session that is fresh already is noted, or found by a search.
         let was_fresh = self.items[at].fresh;
         let done = self.items[at].turn(self.alloc, queues, detail);
         note(&self.items, at, was_fresh, &mut self.noted);
@@ -192,12 +195,13 @@ impl Sink for Sessions {
                 note(&self.items, at, was_fresh, &mut self.noted);
                 done
             }
+            // Never so, as a session's subscriptions end with it.
             None => Ok(()),
         }
     }
 }
 
-/// Whether the session of a number stands at this place.
+/// Whether the session of a number is at this place.
 fn is_at(items: &[Session], at: usize, number: u64) -> bool
     ensures { result ≡ true → StandsAt number items.now at }
 {
@@ -208,7 +212,7 @@ fn is_at(items: &[Session], at: usize, number: u64) -> bool
 }
 
 /// Notes the session at this place where its octets have become fresh. Where as many are noted as there are sessions,
-/// or memory is refused, it isn't noted, and is found by a search.
+/// or an allocation fails, it isn't noted, and is found by a search.
 fn note(items: &[Session], at: usize, was_fresh: bool, noted: &mut Vec<u64>) {
     let Some(session) = items.get(at) else { return };
     // Without the bound, sessions that are dropped before they are named would let the notes grow without end.
@@ -223,6 +227,7 @@ fn fresh_place(items: &[Session], noted: &mut Vec<u64>) -> Option<usize>
 {
     match noted_place(items, noted) {
         Some(at) => Some(at),
+        // A session whose note found no memory has its octets sent too.
         None => first_fresh(items),
     }
 }

@@ -18,6 +18,7 @@ pub fn is_destination(text: &Text) -> bool
 fn are_destination(octets: &[u8]) -> bool
     ensures { result ≡ is_destination octets.now }
 {
+    // The length first: the parts below have to be there.
     8 <= octets.len()
         && octets.len() <= 71
         && &octets[..7] == b"/queue/".as_slice()
@@ -33,7 +34,7 @@ fn are_letters(octets: &[u8]) -> bool
 fn is_letter(o: u8) -> bool
     ensures { result ≡ is_letter o }
 {
-    // Most are lower case letters. `-`, `.` and `/` stand before the digits, so that one test takes all of these.
+    // Most are lower case letters. `-`, `.` and `/` are before the digits, so that one test takes all of these.
     (97 <= o && o <= 122) || (45 <= o && o <= 57) || (65 <= o && o <= 90) || o == 95
 }
 

@@ -33,7 +33,7 @@ impl Model for Written {
 }
 
 impl Written {
-    /// Nothing. It takes no memory.
+    /// Nothing. It allocates nothing.
     pub fn new(alloc: Global) -> Written
         ensures { result ≡ [] }
     {
@@ -50,15 +50,15 @@ impl Written {
         self.outgoing.len()
     }
 
-    /// The octets themselves.
+    /// The octets that were written and not taken.
     pub fn as_slice(&self) -> &[u8]
         ensures { result.now ≡ self.now }
     {
         self.outgoing.as_slice()
     }
 
-    /// Takes the first of them away. Where none is left and there is much room, its memory is given back: a session
-    /// that rests keeps little, whatever was written for it.
+    /// Takes the first octets away. Where none is left and there is much room, its memory is freed: a session that
+    /// rests keeps little, whatever was written for it.
     pub fn taken(&mut self, count: usize)
         requires { count ≤ length self.old }
         ensures { self.new ≡ drop count self.old }

@@ -434,6 +434,7 @@ Sets-open slab keys found key name d at same =
 
 -- ---- names
 
+-- the names in the slab are the names of the queues
 pub names_of : (first : ℕ) (slots : List (Option Destination))
     → map (λ (p : ℕ × Destination). p.1.name) (entries_from first slots) ≡ map (λ e. e.0) (queues_in slots)
 names_of first [] = refl

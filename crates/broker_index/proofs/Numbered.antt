@@ -126,6 +126,7 @@ empty_from v is = none v.items (ap (λ n. eqb n 0) (sym v.ok.0) ∙ is)
     none [] same = refl
     none (x ∷ xs) same = absurd (omega (arith, eqb-true (length (x ∷ xs)) 0 same))
 
+-- a list whose length isn't 0 isn't empty
 pub filled_from : (v : Vec KeyedPlace Global) → eqb v.len 0 ≡ false → v.items ≢ []
 filled_from v is empty =
     true≢false (sym (ap (λ n. eqb n 0) v.ok.0 ∙ ap (λ xs. eqb (length xs) 0) empty) ∙ is)
@@ -135,6 +136,7 @@ pub filled_by : {X : Type 0} (xs : List X) (x : X) → (xs ++ x ∷ []) ≢ []
 filled_by [] x empty = let never : (x ∷ []) ≡ [] = empty in cc
 filled_by (y ∷ ys) x empty = let never : (y ∷ (ys ++ x ∷ [])) ≡ [] = empty in cc
 
+-- in an empty map no list is empty
 pub none_empty-none : (m : BTreeMap ℕ (Vec KeyedPlace Global)) → m.entries ≡ [] → NoneIsEmpty m
 none_empty-none m none q v found =
     let never : None ≡ Some v = sym (ap (λ es. lookup (is_at (nat_cmp q)) es) none) ∙ found in absurd (cc)

@@ -34,6 +34,7 @@ struct Destination {
 pub struct Destinations {
     alloc: Global,
     slab: Slab<Destination>,
+    // An ordered map: clients choose the names, and could make a hash with a fixed seed collide.
     keys: BTreeMap<String, usize>,
     last: usize,
 }
@@ -90,6 +91,7 @@ fn find_queue(
     ensures found { IfSome result (λ key. (d : Destination) × (get slab.now key ≡ Some d) × (d.name ≡ name.now)) }
     ensures absent { IfNone result ((key : ℕ) (d : Destination) → get slab.now key ≡ Some d → d.name ≢ name.now) }
 {
+    // The hint is tested by the name itself: a wrong one costs a look, and no other answer.
     if is_at(slab, hint, name) {
         return Some(hint);
     }
@@ -110,6 +112,7 @@ fn close_at(
         (option_and_then unless_idle (queue_at (queues_in slab.old.slots) name.now)) }
 {
     if slab[key].queue.is_idle() {
+        // The key may be given to another queue: a hint that still has it is tested when it's used.
         drop(slab.try_remove(key));
         drop(keys.remove(name.as_str()));
     }
@@ -127,7 +130,7 @@ fn shared_names(alloc: Global, slab: &Slab<Destination>) -> Result<Vec<Shared<Te
 }
 
 impl Destinations {
-    /// No queues. It takes no memory.
+    /// No queues. It allocates nothing.
     pub fn new(alloc: Global) -> Destinations
         ensures { result ≡ [] }
     {
@@ -144,6 +147,7 @@ impl Destinations {
         ensures { option_copied result ≡ queue_at self.now name.now }
     {
         match find_queue(&self.slab, &self.keys, self.last, name) {
+            // The hint stays as it is: a look changes nothing.
             Some(key) => Some(&self.slab[key].queue),
             None => None,
         }
@@ -172,7 +176,7 @@ impl Destinations {
         self.slab.len()
     }
 
-    /// The name of the queue of this name, if there is one: shared, so that it takes no memory.
+    /// The name of the queue of this name, if there is one: shared, so that it allocates nothing.
     ///
     /// # Errors
     /// Where the name has too many owners to count.
@@ -202,7 +206,7 @@ impl Destinations {
     /// Sees to it that there is a queue of this name: an empty one, where there was none.
     ///
     /// # Errors
-    /// Where memory is refused; then nothing has changed.
+    /// If an allocation fails; then nothing has changed.
     pub fn open(&mut self, name: &Text) -> Result<(), AllocError>
         ensures ok { OnOk result (Sets (queue_at self.old) (queue_at self.new) name.now
             (Some (opened (queue_at self.old name.now)))) }
@@ -230,16 +234,17 @@ impl Destinations {
             queue: StoredQueue::new(self.alloc),
         };
         let text = String::from_str(self.alloc, name.as_str())?;
+        // Room in the slab before the map has the name: the map must not name a queue that isn't there.
         self.slab.reserve(1)?;
         self.keys.insert(text, self.slab.vacant_key())?;
         self.last = self.slab.insert_reserved(destination);
         Ok(())
     }
 
-    /// Adds a message behind all others of the queue of this name, if there is one.
+    /// Adds a message after all others of the queue of this name, if there is one.
     ///
     /// # Errors
-    /// Where memory is refused; then nothing has changed.
+    /// If an allocation fails; then nothing has changed.
     pub fn push_number(&mut self, name: &Text, place: KeyedPlace) -> Result<(), AllocError>
         requires { ForSome (queue_at self.old name.now) (λ q. All (λ p. p.number < place.number) q.numbers) }
         ensures ok { OnOk result (Sets (queue_at self.old) (queue_at self.new) name.now
@@ -255,7 +260,7 @@ impl Destinations {
         }
     }
 
-    /// Says how many messages of the queue of this name aren't gone, if there is one. It takes no memory.
+    /// Says how many messages of the queue of this name aren't gone, if there is one. It allocates nothing.
     pub fn set_count(&mut self, name: &Text, count: usize)
         ensures { Sets (queue_at self.old) (queue_at self.new) name.now (option_map (counting count)
             (queue_at self.old name.now)) }
@@ -269,10 +274,10 @@ impl Destinations {
         }
     }
 
-    /// Adds a message behind all others of the queue of this name, if there is one, and counts it.
+    /// Adds a message after all others of the queue of this name, if there is one, and counts it.
     ///
     /// # Errors
-    /// Where memory is refused; then nothing has changed.
+    /// If an allocation fails; then nothing has changed.
     pub fn push_counted(&mut self, name: &Text, place: KeyedPlace) -> Result<(), AllocError>
         requires above { ForSome (queue_at self.old name.now) (λ q. All (λ p. p.number < place.number) q.numbers) }
         requires room { ForSome (queue_at self.old name.now) (λ q. q.count < 2 ^ 64 - 1) }
@@ -289,7 +294,7 @@ impl Destinations {
         }
     }
 
-    /// Counts one message fewer of the queue of this name that isn't gone, if there is one. It takes no memory.
+    /// Counts one message fewer of the queue of this name that isn't gone, if there is one. It allocates nothing.
     pub fn lower_count(&mut self, name: &Text)
         ensures { Sets (queue_at self.old) (queue_at self.new) name.now (option_map counting_fewer
             (queue_at self.old name.now)) }
@@ -303,8 +308,8 @@ impl Destinations {
         }
     }
 
-    /// Says of the queue of this name, if there is one, that no message before this number is ready. It takes no
-    /// memory.
+    /// Says of the queue of this name, if there is one, that no message before this number is ready. It allocates
+    /// nothing.
     pub fn set_ready_from(&mut self, name: &Text, number: u64)
         ensures { Sets (queue_at self.old) (queue_at self.new) name.now (option_map (ready_from number)
             (queue_at self.old name.now)) }
@@ -321,7 +326,7 @@ impl Destinations {
     /// Adds a subscriber, the youngest, to the queue of this name, if there is one.
     ///
     /// # Errors
-    /// Where memory is refused; then nothing has changed.
+    /// If an allocation fails; then nothing has changed.
     pub fn push_subscriber(&mut self, name: &Text, place: KeyedPlace) -> Result<(), AllocError>
         requires { ForSome (queue_at self.old name.now) (λ q. All (λ p. p.number < place.number) q.subscribers) }
         ensures ok { OnOk result (Sets (queue_at self.old) (queue_at self.new) name.now
@@ -337,7 +342,7 @@ impl Destinations {
         }
     }
 
-    /// Takes a subscriber from the queue of this name, if there is one. It takes no memory.
+    /// Takes a subscriber from the queue of this name, if there is one. It allocates nothing.
     pub fn remove_subscriber(&mut self, name: &Text, age: u64)
         ensures { Sets (queue_at self.old) (queue_at self.new) name.now (option_map (without_subscriber age)
             (queue_at self.old name.now)) }
@@ -351,8 +356,8 @@ impl Destinations {
         }
     }
 
-    /// Says of the queue of this name, if there is one, that no subscriber before this age has credit. It takes no
-    /// memory.
+    /// Says of the queue of this name, if there is one, that no subscriber before this age has credit. It allocates
+    /// nothing.
     pub fn set_taker_from(&mut self, name: &Text, age: u64)
         ensures { Sets (queue_at self.old) (queue_at self.new) name.now (option_map (taken_from age)
             (queue_at self.old name.now)) }
@@ -366,7 +371,7 @@ impl Destinations {
         }
     }
 
-    /// Takes the queue of this name out, if there is one and it is idle. It takes no memory.
+    /// Takes the queue of this name out, if there is one and it is idle. It allocates nothing.
     pub fn close(&mut self, name: &Text)
         ensures { Sets (queue_at self.old) (queue_at self.new) name.now (option_and_then unless_idle
             (queue_at self.old name.now)) }
@@ -377,8 +382,8 @@ impl Destinations {
         }
     }
 
-    /// Takes a message from the queue of this name, if there is one, and then the queue out if it is idle. It takes no
-    /// memory.
+    /// Takes a message from the queue of this name, if there is one, and then the queue out if it is idle. It allocates
+    /// nothing.
     pub fn take_number(&mut self, name: &Text, number: u64)
         ensures { Sets (queue_at self.old) (queue_at self.new) name.now
             (option_and_then (taken_number number) (queue_at self.old name.now)) }
@@ -394,7 +399,7 @@ impl Destinations {
     }
 
     /// Takes a message that is counted from the queue of this name, if there is one, and counts it no more; and then the
-    /// queue out if it is idle. It takes no memory.
+    /// queue out if it is idle. It allocates nothing.
     pub fn take_counted(&mut self, name: &Text, number: u64)
         ensures { Sets (queue_at self.old) (queue_at self.new) name.now
             (option_and_then (taken_counted number) (queue_at self.old name.now)) }

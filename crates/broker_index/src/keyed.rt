@@ -25,6 +25,7 @@ fn search_key<T: Keyed>(slab: &Slab<T>, number: u64) -> Option<usize>
     ensures found { IfSome result (λ key. (v : T) × (get slab.now key ≡ Some v) × (T.number_of v ≡ number)) }
     ensures absent { IfNone result ((key : ℕ) (v : T) → get slab.now key ≡ Some v → T.number_of v ≢ number) }
 {
+    // Through the whole slab, but only where a key is wrong.
     for (key, value) in slab.iter() {
         if value.key_number() == number {
             return Some(key);

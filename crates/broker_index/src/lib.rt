@@ -11,7 +11,7 @@
 //!   there is mostly near the front, and is found in the same time however many are behind.
 //!
 //! Contracts see lists: messages in order of their numbers, subscribers by age, queues by name and places by session.
-//! What is taken out, counted or marked takes no memory; what is put in may be refused memory, and then nothing has
+//! What is taken out, counted or marked allocates nothing; what is put in may be refused memory, and then nothing has
 //! changed.
 //!
 //! ```rust

@@ -1,7 +1,7 @@
 //! The messages of a broker.
 //!
 //! The messages' own numbers are the truth. A slab's key that was told for a number is a hint: it is tried first, and
-//! whoever stands there by now is asked for its number.
+//! whoever is there by now is asked for its number.
 
 ghost use Rattle.std.specs.Prelude.{◌≡◌, ◌==◌, ◌<◌, ◌++◌, ◌∷◌, ◌+◌, ◌-◌, ◌%◌, ◌^◌, [], length, map, filter, not, true, All};
 ghost use Rattle.std.specs.Prelude.{OnErr, OnOk, Some};
@@ -53,14 +53,14 @@ impl Keyed for Stored {
 }
 
 impl Stored {
-    /// Its number.
+    /// The message's number.
     pub fn number(&self) -> u64
         ensures { result ≡ self.now.number }
     {
         self.number
     }
 
-    /// What its SEND brought.
+    /// What the message's SEND brought.
     pub fn sent(&self) -> &Shared<Sent>
         ensures { result.now ≡ self.now.sent }
     {
@@ -149,7 +149,7 @@ fn unanswered_at(slab: &Slab<Stored>, number: u64, key: usize) -> u64
 }
 
 impl Messages {
-    /// No messages. It takes no memory.
+    /// No messages. It allocates nothing.
     pub fn new(alloc: Global) -> Messages
         ensures { result ≡ [] }
     {
@@ -184,7 +184,7 @@ impl Messages {
     /// Adds a message that is ready, and gives its key. What its SEND brought is shared.
     ///
     /// # Errors
-    /// Where memory is refused; then nothing has changed.
+    /// If an allocation fails; then nothing has changed.
     pub fn push(&mut self, number: u64, sent: &Shared<Sent>) -> Result<usize, AllocError>
         requires { All (λ k. k.number < number) self.old }
         ensures ok { OnOk result (self.new ≡ self.old ++ record { number = number; sent = sent.now; fate = Some Ready }
@@ -199,6 +199,7 @@ impl Messages {
             octets,
         };
         let key = put_value(&mut self.slab, stored)?;
+        // Counted once it's in: where that fails the sum stays.
         self.octets = self.octets.wrapping_add(octets);
         Ok(key)
     }
@@ -210,7 +211,7 @@ impl Messages {
         find_value(&self.slab, number, key)
     }
 
-    /// Says where the message of this number is from now on, if there is one. It takes no memory.
+    /// Says where the message of this number is from now on, if there is one. It allocates nothing.
     pub fn set(&mut self, number: u64, key: usize, standing: Standing)
         ensures { self.new ≡ map (with_fate number (fate_of standing)) self.old }
     {
@@ -220,7 +221,7 @@ impl Messages {
         }
     }
 
-    /// Takes the message of this number out, if there is one. It takes no memory.
+    /// Takes the message of this number out, if there is one. It allocates nothing.
     pub fn remove(&mut self, number: u64, key: usize)
         ensures { self.new ≡ filter (λ k. not (k.number == number)) self.old }
     {

@@ -22,6 +22,7 @@ const RESTING: usize = 64;
 /// Places, by rising numbers.
 #[derive(Drop)]
 pub struct Places {
+    // A message costs the same in a queue of 65,536 as in a short one: in an ordered map each search began at the root.
     places: VecDeque<KeyedPlace>,
 }
 
@@ -51,7 +52,7 @@ fn most_before(places: &VecDeque<KeyedPlace>, number: u64) -> usize
     }
 }
 
-/// Two indices up to the highest, between which the first place at this number or behind it is. The higher one is at
+/// Two indices up to the highest, between which the first place at this number or after it is. The higher one is at
 /// most about twice the index of that place.
 fn bounds(places: &VecDeque<KeyedPlace>, number: u64, highest: usize) -> (usize, usize)
     requires rising { are_rising places.now.items ≡ true }
@@ -71,7 +72,7 @@ fn bounds(places: &VecDeque<KeyedPlace>, number: u64, highest: usize) -> (usize,
     (low, high.min(highest))
 }
 
-/// The index of the first place at this number or behind it, which is at most the highest.
+/// The index of the first place at this number or after it, which is at most the highest.
 fn search(places: &VecDeque<KeyedPlace>, number: u64, highest: usize) -> usize
     requires rising { are_rising places.now.items ≡ true }
     requires bound { highest ≤ length places.now.items }
@@ -90,7 +91,7 @@ fn search(places: &VecDeque<KeyedPlace>, number: u64, highest: usize) -> usize
     low
 }
 
-/// The index of the first place at this number or behind it, how many there are if none is.
+/// The index of the first place at this number or after it, how many there are if none is.
 fn first_index(places: &VecDeque<KeyedPlace>, number: u64) -> usize
     requires { are_rising places.now.items ≡ true }
     ensures { IsPartitionPoint (IsBefore number) (IsFrom number) places.now.items result }
@@ -108,7 +109,7 @@ fn first_index(places: &VecDeque<KeyedPlace>, number: u64) -> usize
 }
 
 impl Places {
-    /// No places. It takes no memory.
+    /// No places. It allocates nothing.
     pub fn new(alloc: Global) -> Places
         ensures { result ≡ [] }
     {
@@ -124,10 +125,10 @@ impl Places {
         self.places.is_empty()
     }
 
-    /// Adds a place behind all others.
+    /// Adds a place after all others.
     ///
     /// # Errors
-    /// Where memory is refused; then nothing has changed.
+    /// If an allocation fails; then nothing has changed.
     pub fn push(&mut self, place: KeyedPlace) -> Result<(), AllocError>
         requires { All (λ p. p.number < place.number) self.old }
         ensures ok { OnOk result (self.new ≡ self.old ++ place ∷ []) }
@@ -137,7 +138,7 @@ impl Places {
         Ok(())
     }
 
-    /// Takes the place of this number out, if there is one. It takes no memory.
+    /// Takes the place of this number out, if there is one. It allocates nothing.
     pub fn remove(&mut self, number: u64)
         ensures { self.new ≡ without number self.old }
     {
@@ -151,7 +152,7 @@ impl Places {
         }
     }
 
-    /// The first place at this number or behind it.
+    /// The first place at this number or after it.
     pub fn first_from(&self, number: u64) -> Option<KeyedPlace>
         ensures found { result ≡ find (is_from number) self.now }
         ensures least { IfSome result (λ p. All (λ q. (q.number < number) ⊎ (p.number ≤ q.number)) self.now) }
@@ -168,6 +169,7 @@ impl Places {
     {
         let half = self.places.capacity() / 2;
         if half >= RESTING && self.places.len() < half / 2 {
+            // To half and not to what is needed: a queue whose length swings doesn't allocate again at once.
             self.places.shrink_to(half);
         }
     }

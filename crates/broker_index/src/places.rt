@@ -6,7 +6,7 @@
 pub struct KeyedPlace {
     /// The number of the message, or the age of the subscriber.
     pub number: u64,
-    /// Its key.
+    /// The key of the message or the subscriber: a hint.
     pub key: usize,
 }
 

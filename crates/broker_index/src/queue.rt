@@ -1,6 +1,6 @@
 //! A destination.
 //!
-//! The two lists are the truth. `ready_from` and `taker_from` are hints: where to look first, never behind what is
+//! The two lists are the truth. `ready_from` and `taker_from` are hints: where to look first, never after what is
 //! looked for, so that one that is too low costs a longer search and no other answer.
 
 ghost use Rattle.std.specs.Prelude.{◌≡◌, ◌<◌, ◌++◌, ◌∷◌, ◌^◌, ◌-◌, [], ◌≤◌, ◌⊎◌, All, IfSome, OnOk, OnErr};
@@ -72,7 +72,7 @@ impl StoredQueue {
         self.taker_from
     }
 
-    /// The first message at this number or behind it.
+    /// The first message at this number or after it.
     pub fn first_number_from(&self, number: u64) -> Option<KeyedPlace>
         ensures found { result ≡ find (is_from number) self.now.numbers }
         ensures least { IfSome result (λ p. All (λ q. (q.number < number) ⊎ (p.number ≤ q.number)) self.now.numbers) }
@@ -122,6 +122,7 @@ impl StoredQueue {
         ensures err { OnErr result (self.new ≡ self.old) }
     {
         self.numbers.push(place)?;
+        // Counted once it's listed: where that fails nothing has changed.
         self.count += 1;
         Ok(())
     }
@@ -129,6 +130,7 @@ impl StoredQueue {
     pub(crate) fn lower_count(&mut self)
         ensures { self.new ≡ counting_fewer self.old }
     {
+        // Never below 0 where the parts agree. That isn't required here, so it must not wrap.
         self.count = self.count.saturating_sub(1);
     }
 

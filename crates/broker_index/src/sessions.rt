@@ -9,7 +9,7 @@ use std::alloc::{AllocError, Global};
 use std::collections::BTreeMap;
 use std::marker::Model;
 
-/// Where the subscribers of each session are, the oldest first. A session without any takes no memory.
+/// Where the subscribers of each session are, the oldest first. A session without any allocates nothing.
 #[derive(Drop)]
 pub struct Sessions {
     alloc: Global,
@@ -30,7 +30,7 @@ impl Model for Sessions {
 }
 
 impl Sessions {
-    /// No sessions. It takes no memory.
+    /// No sessions. It allocates nothing.
     pub fn new(alloc: Global) -> Sessions
         ensures { result ≡ [] }
     {
@@ -82,7 +82,7 @@ impl Sessions {
     /// Adds a subscriber to a session.
     ///
     /// # Errors
-    /// Where memory is refused; then nothing has changed.
+    /// If an allocation fails; then nothing has changed.
     pub fn push(&mut self, session: u64, place: KeyedPlace) -> Result<(), AllocError>
         ensures ok { OnOk result (Sets (places_at self.old) (places_at self.new) session
             (places_at self.old session ++ place ∷ [])) }
@@ -95,7 +95,7 @@ impl Sessions {
         }
     }
 
-    /// Takes a subscriber from a session, and the session with its last one. It takes no memory.
+    /// Takes a subscriber from a session, and the session with its last one. It allocates nothing.
     pub fn remove_place(&mut self, session: u64, age: u64)
         ensures { Sets (places_at self.old) (places_at self.new) session (without age (places_at self.old session)) }
     {

@@ -20,16 +20,16 @@ pub struct Holder {
 /// Where a message is.
 #[derive(Debug, Drop)]
 pub enum Standing {
-    /// It can go out.
+    /// The message can go out.
     Ready,
-    /// It is out, and unanswered.
+    /// The message is out, and unanswered.
     Out(Holder),
-    /// It is acknowledged, and only waits to be taken out.
+    /// The message is acknowledged, and only waits to be taken out.
     Gone,
 }
 
 impl Standing {
-    /// The same standing; its text is shared, so that it takes no memory.
+    /// An equal standing; its text is shared, so that it allocates nothing.
     ///
     /// # Errors
     /// Where the text has too many owners to count.

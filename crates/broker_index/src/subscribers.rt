@@ -38,7 +38,7 @@ impl Keyed for StoredSubscriber {
 }
 
 impl StoredSubscriber {
-    /// Its age: of two the older has the lower one.
+    /// The subscriber's age: of two the older has the lower one.
     pub fn age(&self) -> u64
         ensures { result ≡ self.now.age }
     {
@@ -83,6 +83,7 @@ impl StoredSubscriber {
     fn forget(&mut self, number: u64)
         ensures { self.new ≡ record self.old { entries = entries_without number self.old.entries } }
     {
+        // All of them: the message may have been out to this subscriber more than once.
         self.entries.retain(|entry| !(entry.number == number));
     }
 }
@@ -109,7 +110,7 @@ impl Model for Subscribers {
 }
 
 impl Subscribers {
-    /// No subscribers. It takes no memory.
+    /// No subscribers. It allocates nothing.
     pub fn new(alloc: Global) -> Subscribers
         ensures { result ≡ [] }
     {
@@ -124,13 +125,14 @@ impl Subscribers {
     /// shared.
     ///
     /// # Errors
-    /// Where memory is refused, or no age is left; then nothing has changed.
+    /// If an allocation fails, or no age is left; then nothing has changed.
     pub fn push(&mut self, subscription: &Subscription) -> Result<KeyedPlace, AllocError>
         ensures ok { IfOk result (λ p. self.new
             ≡ self.old ++ record { age = p.number; subscription = subscription.now; count = 0; entries = [] } ∷ []) }
         ensures youngest { IfOk result (λ p. All (λ s. s.age < p.number) self.old) }
         ensures err { OnErr result (self.new ≡ self.old) }
     {
+        // Reported as out of memory: no broker lives for 2^64 subscriptions.
         if self.next == u64::MAX {
             return Err(AllocError);
         }
@@ -160,7 +162,7 @@ impl Subscribers {
         find_value(&self.slab, age, key)
     }
 
-    /// Says how many deliveries to the subscriber of this age are unanswered, if there is one. It takes no memory.
+    /// Says how many deliveries to the subscriber of this age are unanswered, if there is one. It allocates nothing.
     pub fn set_count(&mut self, age: u64, key: usize, count: usize)
         ensures { self.new ≡ map (with_count age count) self.old }
     {
@@ -173,7 +175,7 @@ impl Subscribers {
     /// Adds a delivery to the subscriber of this age, if there is one.
     ///
     /// # Errors
-    /// Where memory is refused; then nothing has changed.
+    /// If an allocation fails; then nothing has changed.
     pub fn note(&mut self, age: u64, key: usize, entry: Entry) -> Result<(), AllocError>
         ensures ok { OnOk result (self.new ≡ map (with_entry age entry) self.old) }
         ensures err { OnErr result (self.new ≡ self.old) }
@@ -187,7 +189,7 @@ impl Subscribers {
         }
     }
 
-    /// Takes the deliveries of a message from the subscriber of this age, if there is one. It takes no memory.
+    /// Takes the deliveries of a message from the subscriber of this age, if there is one. It allocates nothing.
     pub fn forget(&mut self, age: u64, key: usize, number: u64)
         ensures { self.new ≡ map (without_entries age number) self.old }
     {
@@ -197,7 +199,7 @@ impl Subscribers {
         }
     }
 
-    /// Takes the subscriber of this age out, if there is one. It takes no memory.
+    /// Takes the subscriber of this age out, if there is one. It allocates nothing.
     pub fn remove(&mut self, age: u64, key: usize)
         ensures { self.new ≡ filter (λ s. not (s.age == age)) self.old }
     {

@@ -19,6 +19,7 @@ use Rattle.broker_queues.proofs.Living.{living_push}
 use Rattle.broker_queues.proofs.Moving.{moved}
 use Rattle.broker_queues.proofs.Putting.{put_keeps}
 
+-- a put that fails for memory has changed at most where a queue looks
 pub memory_refused : {A : Type 0} (full : ℕ) (h : Holding) (sent : Sent) (i : Holding) → IsSound h → LooksElsewhere h i
     → (r : Result A QueueFault) → IsErrAnd r (λ fault. fault ≡ Memory) → PutsIn full h sent i r
 memory_refused full h sent i is m (Ok x) e = absurd e

@@ -28,9 +28,11 @@ use Rattle.broker_queues.proofs.Responding.{found_lists}
 
 -- ---- lists that grow
 
+-- a list that stays the same has grown by nothing
 pub grows_none : {A : Type 0} (xs ys : List A) → ys ≡ xs → Grows xs ys
 grows_none xs ys same = record { more = []; is = same ∙ sym (append-nil xs) }
 
+-- a list that grows twice has grown
 pub grows_again : {A : Type 0} (xs ys zs : List A) → Grows xs ys → Grows ys zs → Grows xs zs
 grows_again xs ys zs one two = record {
   more = one.more ++ two.more;
@@ -150,9 +152,11 @@ pub tidy_book : (h i : Holding) (accepted now : List Accepted) → Tidies h i �
     → book_of i now ≡ book_of h accepted
 tidy_book h i accepted now t same = rw (t.living, t.last, t.given, t.subscriptions, same) refl
 
+-- where nothing is done the book stays tidy
 pub tidies_none : (h : Holding) → IsSound h → Tidies h h
 tidies_none h is = record { sound = is; living = refl; subscriptions = refl; last = refl; given = refl }
 
+-- two steps that keep the book tidy keep it tidy
 pub tidies_again : (h i j : Holding) → Tidies h i → Tidies i j → Tidies h j
 tidies_again h i j one two = record {
   sound = two.sound;
@@ -169,6 +173,7 @@ undone_kept start h b last =
     ∙ ap (λ n. before n [] h.kept) last
     ∙ b.kept
 
+-- once all is undone, the book is what it was at the start
 pub undone_tidies : (start h : Holding) → IsBegun start [] h → h.last ≡ start.last → Tidies start h
 undone_tidies start h b last = record {
   sound = b.sound;

@@ -27,6 +27,7 @@ differs d name off is =
     let never : true ≡ false = sym on ∙ off in
     cc
 
+-- one queue has changed so, and no other has changed
 pub becomes : (change : Queue → Queue) (old new : List ℕ → Option Queue) (name : List ℕ)
     → queue_of new name ≡ change (queue_of old name)
     → ((d : List ℕ) → (d ≡ name → ⊥) → queue_of new d ≡ queue_of old d) → Becomes change old new name

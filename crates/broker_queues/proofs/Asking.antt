@@ -73,6 +73,7 @@ module _ (h : Holding) (is : IsSound h) (x : ℕ) (i : List ℕ) where
 
 -- ---- deliveries
 
+-- a delivery is found at a subscriber just where the book says that it's out to the session
 pub asks_holder : (h : Holding) (accepted : List Accepted) (x number : ℕ) → IsSound h
     → is_some (find (is_held_at h.kept h.subscribers number) (h.sessions x))
     ≡ is_some (holder (book_of h accepted) x number)

@@ -39,6 +39,7 @@ becomes_without age b c name sets = by_queue (b name) refl
     by_queue (Some q) is = ap opened (sets.at ∙ ap (λ x. option_map (without_subscriber age) x) is)
         ∙ sym (ap (λ x. without_subscriber age (opened x)) is)
 
+-- a subscriber that was added last and taken away again leaves the queues as they were
 pub detaches_again : (a b c e : List ℕ → Option Queue) (name : List ℕ) (place : KeyedPlace)
     → All (λ p. p.number < place.number) (queue_of a name).subscribers → Becomes (with_subscriber place) a b name
     → Sets b c name (option_map (without_subscriber place.number) (b name))
@@ -222,11 +223,13 @@ module _ (h i : Holding) (is : IsSound h) (sub : Subscription) (place : KeyedPla
 
 -- ---- or not
 
+-- a SUBSCRIBE that fails and leaves the book tidy is refused
 pub not_joined : {A E : Type 0} (h i : Holding) (sub : Subscription) (r : Result A E) → IsErr r → Tidies h i
     → SubscribesTo h sub i r
 not_joined h i sub (Ok x) err t = let never : false ≡ true = err in cc
 not_joined h i sub (Err e) err t = t
 
+-- equal subscribers keep the book tidy
 pub tidy_same : (h : Holding) → IsSound h → (subs : List Subscriber) → subs ≡ h.subscribers
     → Tidies h (record h { subscribers = subs })
 tidy_same h is subs same = rw same (tidy h is)

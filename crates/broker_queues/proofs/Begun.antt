@@ -39,6 +39,7 @@ up_to h is =
     (λ k found. le-leb k.number h.last (is.last k.number k found))
     ∙ filter_every h.kept
 
+-- before its first action a transaction has changed nothing
 pub begins : (h : Holding) → IsSound h → IsBegun h [] h
 begins h is = record {
   sound = is;

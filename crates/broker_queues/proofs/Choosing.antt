@@ -214,6 +214,7 @@ named_there (e ∷ qs) d n listed = elim (cases_Bool (bytes_eq d e.0)) [
       elim (cases_Bool (bytes_eq e.0 d)) [ inl here ↦ rw here refl | inr there ↦ rw there (named_there qs d n rest) ]
 ]
 
+-- to name all destinations as awake leaves the book as it is
 pub roused : (h : Holding) → IsSound h → (qs : List (List ℕ × Queue)) (names : List (List ℕ)) → h.queues ≡ queue_at qs
     → names ≡ map (λ e. e.0) qs → Rests h (record h { awake = awake_in false names })
 roused h is qs names queues all = record {
@@ -302,6 +303,7 @@ module _ (h i : Holding) (index : ℕ) (names : List (List ℕ)) (best : Option 
         covers = covers_left h.kept h.subscribers h.given index names best short c.covers;
       })
 
+-- once all awake destinations were looked at, the best pick is the next deal
 pub chosen : (h i : Holding) (index : ℕ) (names : List (List ℕ)) (best : Option Pick) → Choosing h i index names best
     → i.awake ≡ awake_in false names → length names ≤ index → IsNext i best
 chosen h i index names best c awake end = by_best best c.can covers

@@ -84,6 +84,7 @@ fewer_noted age kept e old new stale is = by_subscriber (subscriber_at age old) 
 
 -- ---- what is left
 
+-- before the first delivery is taken back nothing has changed
 pub clearing_none : (h : Holding) (age : ℕ) (s : Subscriber) → subscriber_at age h.subscribers ≡ Some s
     → Clearing age s h
 clearing_none h age s sits = record {
@@ -93,6 +94,7 @@ clearing_none h age s sits = record {
   kept = λ n k there noted. inr noted;
 }
 
+-- where nothing is stale nothing is swept
 pub swept_none : (h : Holding) (age : ℕ) → SweptOne h age h
 swept_none h age = record { kept = λ n k there. there; others = λ b other. refl }
 
@@ -213,6 +215,7 @@ among_number to test es k = elim (cases_Bool (passes test k.fate && notes k.numb
   | inr off ↦ rw off refl
 ]
 
+-- after an answer and its sweep no message that is gone is kept
 pub none_gone : (h i j : Holding) → IsSound h → (x number : ℕ) (again : Bool) (p : KeyedPlace)
     → find (is_held_at h.kept h.subscribers number) (h.sessions x) ≡ Some p → TurnsAll h p.number (Some number) again i
     → Clears i p.number j → SweepsOne i p.number j → NoneGone h.kept → NoneGone j.kept

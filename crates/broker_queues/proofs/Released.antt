@@ -253,6 +253,7 @@ ends_first h i is x p first ends =
 pub ends_nothing : (h : Holding) → IsSound h → (x most : ℕ) → length (h.sessions x) ≤ most → EndsSome h x most h
 ends_nothing h is x most few = record { sound = is; book = λ accepted. refl; left = few; none_gone = λ none. none }
 
+-- a list without a first element has none to take away
 pub no_first : (ps : List KeyedPlace) → slice_get ps 0 ≡ None → length ps ≤ length ps - 1
 no_first [] none = omega arith
 no_first (p ∷ ps) none = let never : Some p ≡ None = none in cc

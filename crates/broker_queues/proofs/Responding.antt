@@ -80,6 +80,7 @@ module _ (h i : Holding) (accepted : List Accepted) (x number : ℕ) (is : IsSou
   stepped true t = again_ready t
   stepped false t = gone t
 
+-- an answer at the subscriber that holds the delivery is the book's step
 pub responded : (h i : Holding) (accepted : List Accepted) (x number : ℕ) (again : Bool) (p : KeyedPlace) → IsSound h
     → find (is_held_at h.kept h.subscribers number) (h.sessions x) ≡ Some p → TurnsAll h p.number (Some number) again i
     → IsSound i × (step_of again (book_of h accepted) x number ≡ Ok (book_of i accepted))

@@ -36,6 +36,7 @@ use Rattle.broker_queues.proofs.Subscribing.{out_passes, named_from}
 
 -- ---- a destination counts one more
 
+-- a queue's count rises by one, and never above the most
 pub counts_more : (old new : List ℕ → Option Queue) (name : List ℕ) (most count : ℕ)
     → ((queue_of old name).count < most → count ≡ (queue_of old name).count + 1)
     → Sets old new name (option_map (counting count) (old name)) → CountsMore None most old new name
@@ -411,6 +412,7 @@ recount_none (s ∷ subscribers) =
     let first : recounted (Some Ready) None s ≡ s = ap (λ n. record s { count = n }) count in
     ap (λ t. t ∷ map (recounted (Some Ready) None) subscribers) first ∙ ap (λ l. s ∷ l) (recount_none subscribers)
 
+-- a ready message that goes leaves a tidy book with one message fewer in its queue
 pub gone_changes : (h i : Holding) (n : ℕ) (k : Kept) (name : List ℕ) → IsSound h → kept_at n h.kept ≡ Some k
     → k.fate ≡ Some Ready → name ≡ k.sent.destination → CountsFewer h.queues i.queues name
     → i.kept ≡ map (with_fate n None) h.kept → i.subscribers ≡ h.subscribers
@@ -449,6 +451,7 @@ gone_changes h i n k name is found ready there fewer kept subscribers sessions a
 
 -- ---- by what each step of the code says
 
+-- after one answer is undone, one fewer is left to undo
 pub restored : (start h i : Holding) (log : List Logged) (e : Logged) (k : Kept) (s : Subscriber) (was : Option Fate)
     (name : List ℕ)
     (most count : ℕ) → IsBegun start (log ++ e ∷ []) h → h.last ≡ start.last → Some k ≡ kept_at e.number h.kept

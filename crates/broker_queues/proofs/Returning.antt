@@ -202,6 +202,7 @@ taken_back_in h i n age count again fate k s name there q v is found sits on e1 
 
 -- ---- names of what is awake
 
+-- a destination whose name was added last is awake
 pub noted_name : (all : Bool) (names : List (List ℕ)) (copy name : List ℕ) → copy ≡ name
     → awake_in all (names ++ copy ∷ []) name ≡ true
 noted_name true names copy name same = refl

@@ -110,6 +110,7 @@ takes_no_later : (age : ℕ) (o : Option Queue) → (opened (option_map (taken_f
 takes_no_later age None = omega arith
 takes_no_later age (Some q) = omega arith
 
+-- a queue that looks from the first ready message on misses none
 pub seeks_ready : (kept : List Kept) (last above number : ℕ) (name : List ℕ) (old new : List ℕ → Option Queue)
     (found : Option KeyedPlace) → number ≡ number_or found above
     → Sets old new name (option_map (ready_from number) (old name))

@@ -56,6 +56,7 @@ Lowers-same queues = record {
   takers = λ d. omega arith;
 }
 
+-- a queue that looks for messages from a lower number on misses none
 pub looks_from : (old new : List ℕ → Option Queue) (name : List ℕ) (number : ℕ)
     → number ≤ (queue_of old name).ready_from
     → Sets old new name (option_map (ready_from number) (old name)) → LooksFrom old new name number
@@ -80,6 +81,7 @@ pub looks_already : (queues : List ℕ → Option Queue) (name : List ℕ) (numb
     → LooksFrom queues queues name number
 looks_already queues name number earlier = record { lowers = Lowers-same queues; counts = λ d. refl; from = earlier }
 
+-- a queue that looks for takers from a lower age on misses none
 pub takes_from : (old new : List ℕ → Option Queue) (name : List ℕ) (age : ℕ) → age ≤ (queue_of old name).taker_from
     → Sets old new name (option_map (taken_from age) (old name)) → TakesFrom old new name age
 takes_from old new name age later sets = record {

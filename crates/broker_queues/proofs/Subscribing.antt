@@ -44,6 +44,7 @@ pub record IsOut (x : ℕ) (j : List ℕ) (f : Option Fate) : Type 0 where
   pub ack : ℕ
   pub out : f ≡ Some (Out x j ack)
 
+-- the test finds what it is to be out to a subscription
 pub is_out : (x : ℕ) (j : List ℕ) (f : Option Fate) → passes (out_to x j) f ≡ true → IsOut x j f
 is_out x j None on = let no : false ≡ true = on in cc
 is_out x j (Some Ready) on = let no : false ≡ true = on in cc

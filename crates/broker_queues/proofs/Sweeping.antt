@@ -38,10 +38,12 @@ between queues name n d = if bytes_eq name d then option_map (without_number n) 
 pub isnt : (name d : List ℕ) → (d ≡ name → ⊥) → bytes_eq name d ≡ false
 isnt name d differs = false_from_ne_true (bytes_eq name d) (λ on. differs (sym ((bytes_eq-Decides name d).0 on)))
 
+-- a number is taken from its queue first
 pub taken_first : (queues : List ℕ → Option Queue) (name : List ℕ) (n : ℕ)
     → Sets queues (between queues name n) name (option_map (without_number n) (queues name))
 taken_first queues name n = record { at = rw (itself name) refl; others = λ d differs. rw (isnt name d differs) refl }
 
+-- then the queue is taken out, if it is idle
 pub taken_then : (queues now : List ℕ → Option Queue) (name : List ℕ) (n : ℕ)
     → Sets queues now name (option_and_then (taken_number n) (queues name))
     → Sets (between queues name n) now name (option_and_then unless_idle (between queues name n name))
@@ -57,9 +59,11 @@ taken_then queues now name n sets = record {
 
 -- ---- nothing, one thing after another, places alone
 
+-- a sound book is tidy as it is
 pub tidy : (h : Holding) → IsSound h → Tidies h h
 tidy h is = record { sound = is; living = refl; subscriptions = refl; last = refl; given = refl }
 
+-- two steps that keep the book tidy keep it tidy
 pub tidies : (h i j : Holding) → Tidies h i → Tidies i j → Tidies h j
 tidies h i j p q = record {
   sound = q.sound;

@@ -25,6 +25,7 @@ use Rattle.broker_queues.proofs.Rising.{at_edit_other, at_number, at_push}
 
 -- ---- messages change
 
+-- equal messages have as few that are gone
 pub none_same : (old new : List Kept) → new ≡ old → NoneGone old → NoneGone new
 none_same old new same none = rw same none
 
@@ -151,6 +152,7 @@ held_waits subscribers n (e ∷ log) held on = elim (cases_Bool (e.number == n))
   | inr off ↦ rw off (held_waits subscribers n log held.1 (rw off at on))
 ]
 
+-- before the first sweep each message that is gone is noted
 pub left_first : (h : Holding) (log : List Logged) → AreHeld h.subscribers log → GoneAreNoted h.kept log → AreLeft h log
 left_first h log held noted n k there gone = held_waits h.subscribers n log held (noted n k there gone)
 

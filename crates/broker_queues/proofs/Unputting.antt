@@ -158,11 +158,13 @@ module _ (start h i j : Holding) (log : List Logged) (k : Kept) (b : IsBegun sta
 
 -- ---- by what each step of the code says
 
+-- where the last number has no message, to undo its put lowers the number alone
 pub none_taken : (start h i : Holding) (log : List Logged) → IsBegun start log h → start.last < h.last
     → LetsGo h h.last i false
     → IsBegun start log (record i { last = h.last - 1 })
 none_taken start h i log b later gone = rw gone.1 (unput_none start h log b later gone.0)
 
+-- where it has one, to undo its put takes the message out and lowers the number
 pub one_taken : (start h i j : Holding) (log : List Logged) → IsBegun start log h → start.last < h.last
     → LetsGo h h.last i true
     → Sweeps i j → TakesOut i h.last j → IsBegun start log (record j { last = h.last - 1 })

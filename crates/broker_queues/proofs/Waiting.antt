@@ -163,5 +163,6 @@ module _ (weight : Sent → ℕ) where
             sum_by-cons (λ (l : QueuedMessage). weight l.sent) m (living_of kept),
           )
 
+-- the octets counted for all messages are those of the book's living ones
 pub counts_held : (h : Holding) → IsSound h → NoneGone h.kept → kept_octets h.kept ≡ held_octets (living_of h.kept)
 counts_held h is none = counts_living sent_octets 0 h.kept is.numbers none

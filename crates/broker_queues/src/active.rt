@@ -45,10 +45,10 @@ impl Active {
     /// Makes room to note the names of these destinations, and of one more.
     ///
     /// From then on there is room for each destination that sleeps, until a second queue is opened: a destination that
-    /// wakes takes one place, and gives it back as it falls asleep.
+    /// wakes takes one place, and returns it as it falls asleep.
     ///
     /// # Errors
-    /// Where memory is refused; then nothing has changed.
+    /// If an allocation fails; then nothing has changed.
     pub fn make_room(&mut self, destinations: &Destinations) -> Result<(), AllocError>
         ensures room { OnOk result (vec_len self.new.names + length destinations.now < vec_capacity self.new.names) }
         ensures names { self.new.names.items ≡ self.old.names.items }
@@ -83,8 +83,8 @@ impl Active {
         drop(self.names.remove(index));
     }
 
-    /// From now on something may be due at a destination. It takes no memory, as long as `make_room` comes before each
-    /// queue that is opened.
+    /// From now on something may be due at a destination. It allocates nothing, as long as `make_room` comes before
+    /// each queue that is opened.
     pub fn wake(&mut self, destinations: &Destinations, name: &Text)
         ensures wakes { Wakes (awake_in self.old.all self.old.names.items)
             (awake_in self.new.all self.new.names.items) }

@@ -55,7 +55,7 @@ fn pick_of(message: KeyedPlace, taker: Option<KeyedPlace>) -> Option<Pick>
 /// Gives a message to a sink, as the delivery `ack` to a subscription, and tells to whom it is out then.
 ///
 /// # Errors
-/// Where memory is refused; then the sink has taken nothing.
+/// If an allocation fails; then the sink has taken nothing.
 fn deliver_as<S: Sink>(
     number: u64,
     sent: &Sent,
@@ -117,7 +117,7 @@ impl Parts {
             last,
             name,
         );
-        // At what was found and not behind it: another destination's deal may be made first.
+        // At what was found and not after it: another destination's deal may be made first.
         look_on(
             &mut self.destinations,
             name,
@@ -141,7 +141,7 @@ impl Parts {
                 best = Some(earlier(best, pick));
                 index += 1;
             } else {
-                // The next name stands at this place then.
+                // The next name is at this place then.
                 self.active.sleep(index);
             }
         }
@@ -171,7 +171,7 @@ impl Parts {
     /// sleep or other sessions.
     ///
     /// # Errors
-    /// Where memory is refused; then nothing can be said of the next deal, and nothing has changed.
+    /// If an allocation fails; then nothing can be said of the next deal, and nothing has changed.
     pub fn next_deal(&mut self) -> Result<Option<Pick>, AllocError>
         ensures { NextDeal (holding_of self.old) (holding_of self.new) result }
     {
@@ -182,7 +182,7 @@ impl Parts {
     /// Hands a message out to a subscriber in mode `auto`: it is gone.
     ///
     /// # Errors
-    /// Where memory is refused; then nothing has changed.
+    /// If an allocation fails; then nothing has changed.
     fn hand_auto<S: Sink>(
         &mut self,
         message: KeyedPlace,
@@ -212,7 +212,7 @@ impl Parts {
     /// Hands a message out to a subscriber that is to answer, as the next delivery; the subscriber notes it.
     ///
     /// # Errors
-    /// Where memory is refused; then nothing has changed, but that what the subscriber noted of the message before, which
+    /// If an allocation fails; then nothing has changed, but that what the subscriber noted of the message before, which
     /// is stale, may be forgotten.
     fn hand_out<S: Sink>(
         &mut self,
@@ -244,7 +244,7 @@ impl Parts {
         let count = subscriber.count().saturating_add(1);
         match deliver_as(message.number, sent, subscription, ack, sink) {
             Ok(holder) => {
-                // What follows takes no memory, so a message that the sink has is out.
+                // What follows allocates nothing, so a message that the sink has is out.
                 self.subscribers.set_count(to.number, to.key, count);
                 self.messages
                     .set(message.number, message.key, Standing::Out(holder));
@@ -272,7 +272,7 @@ impl Parts {
     /// Makes a deal.
     ///
     /// # Errors
-    /// Where memory is refused; then no message has gone out.
+    /// If an allocation fails; then no message has gone out.
     pub fn hand<S: Sink>(&mut self, pick: Pick, sink: &mut S) -> Result<(), AllocError>
         ensures hands { Hands S.takes pick.message.number pick.taker.number (holding_of self.old) sink.old
             (holding_of self.new) sink.new result }

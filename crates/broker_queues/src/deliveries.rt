@@ -186,7 +186,7 @@ impl Parts {
     }
 
     /// Where the first of a subscriber's deliveries is, from a place on, for which an answer to the delivery `answered`
-    /// counts; behind all, where there is none.
+    /// counts; after all, where there is none.
     fn next_covered(&self, age: u64, age_key: usize, from: usize, answered: Option<u64>) -> usize
         ensures behind { from ≤ result }
         ensures passes { TurnsPast (holding_of self.now) age from answered result }
@@ -208,7 +208,7 @@ impl Parts {
     }
 
     /// Takes back the deliveries of a subscriber for which an answer to the delivery `answered` counts, without an
-    /// answer all: their messages are ready again, or else gone. It takes no memory.
+    /// answer all: their messages are ready again, or else gone. It allocates nothing.
     pub fn answer(&mut self, age: u64, age_key: usize, answered: Option<u64>, again: bool)
         ensures { TurnsAll (holding_of self.old) age answered again (holding_of self.new) }
     {
@@ -306,7 +306,7 @@ impl Parts {
     }
 
     /// Forgets a subscriber's deliveries whose messages aren't out any more, and takes out those that are gone. A message
-    /// that is out to another one is left for later, which spares a look at names. It takes no memory.
+    /// that is out to another one is left for later, which spares a look at names. It allocates nothing.
     pub fn sweep(&mut self, age: u64, age_key: usize)
         ensures sweeps { Sweeps (holding_of self.old) (holding_of self.new) }
         ensures clears { Clears (holding_of self.old) age (holding_of self.new) }
@@ -352,7 +352,7 @@ impl Parts {
     }
 
     /// Acknowledges one delivery to the subscriber at a place: the delivery is forgotten, and its message taken out. It
-    /// takes no memory.
+    /// allocates nothing.
     ///
     /// The message isn't put down as gone before: so its queue counts and lists it no more by one look.
     fn settle(&mut self, entry: &Entry, holder: &KeyedPlace)
@@ -381,7 +381,7 @@ impl Parts {
     }
 
     /// Takes back one delivery to the subscriber at a place, and forgets it: its message is ready again, or else taken
-    /// out. It takes no memory.
+    /// out. It allocates nothing.
     fn answer_alone(&mut self, entry: &Entry, place: &KeyedPlace, again: bool)
         ensures { AnswersAlone (holding_of self.old) place.now.number entry.now.number again (holding_of self.new) }
     {
@@ -405,8 +405,8 @@ impl Parts {
         }
     }
 
-    /// Sweeps a subscriber that notes more deliveries than are out to it: where memory is refused behind a note, it is
-    /// left. It takes no memory.
+    /// Sweeps a subscriber that notes more deliveries than are out to it: if an allocation fails after a note, it is
+    /// left. It allocates nothing.
     fn sweep_rest(&mut self, age: u64, age_key: usize)
         ensures sweeps { Sweeps (holding_of self.old) (holding_of self.new) }
         ensures rest { SweepsOne (holding_of self.old) age (holding_of self.new) }
@@ -451,8 +451,8 @@ impl Parts {
         Ok(())
     }
 
-    /// An ACK of a session, or a NACK where the messages are to be ready again; what is gone then is taken out. It takes
-    /// no memory.
+    /// An ACK of a session, or a NACK where the messages are to be ready again; what is gone then is taken out. It
+    /// allocates nothing.
     ///
     /// # Errors
     /// Where no delivery of this number is out to the session; then nothing has changed.

@@ -93,7 +93,7 @@ pub fn look_from(destinations: &mut Destinations, name: &Text, number: u64)
     }
 }
 
-/// The same where the queue told before whether it does.
+/// Sees to it that a destination's queue looks from this number on, as `look_from`, by what the queue told before.
 pub fn look_from_told(
     destinations: &mut Destinations,
     name: &Text,
@@ -118,7 +118,7 @@ fn take_from(destinations: &mut Destinations, name: &Text, age: u64)
     }
 }
 
-/// One living message of a destination fewer.
+/// Counts one living message of a destination fewer.
 pub fn count_fewer(destinations: &mut Destinations, name: &Text)
     ensures { CountsFewer (queue_at destinations.old) (queue_at destinations.new) name.now }
 {
@@ -162,6 +162,7 @@ pub fn credit(destinations: &mut Destinations, active: &mut Active, name: &Text,
     // Before the change, which leaves what it tells: so the two look the name up once.
     let is_awake = lists_more(destinations, name);
     take_from(destinations, name, age);
+    // When each ACK woke its queue, a deal searched it in vain.
     if is_awake {
         active.wake(destinations, name);
     }
@@ -170,7 +171,7 @@ pub fn credit(destinations: &mut Destinations, active: &mut Active, name: &Text,
 /// Sees to it that a destination has a queue, where it isn't told that it has.
 ///
 /// # Errors
-/// Where memory is refused; then nothing has changed.
+/// If an allocation fails; then nothing has changed.
 fn open_told(
     destinations: &mut Destinations,
     name: &Text,
@@ -187,10 +188,10 @@ fn open_told(
     destinations.open(name)
 }
 
-/// Adds a living message to a destination, behind all others; where there was no queue, it has one then.
+/// Adds a living message to a destination, after all others; where there was no queue, it has one then.
 ///
 /// # Errors
-/// Where memory is refused; then an idle queue goes at most.
+/// If an allocation fails; then an idle queue goes at most.
 pub fn add_number(
     destinations: &mut Destinations,
     name: &Text,
@@ -217,7 +218,7 @@ pub fn add_number(
 /// Adds a subscriber to a destination, the youngest; where there was no queue, it has one then.
 ///
 /// # Errors
-/// Where memory is refused; then an idle queue goes at most.
+/// If an allocation fails; then an idle queue goes at most.
 pub fn add_subscriber(
     destinations: &mut Destinations,
     name: &Text,

@@ -2,12 +2,12 @@
 //!
 //! [`Queues`] keeps a book of `broker_book`. Each call is one of its steps, or it is refused and has changed nothing.
 //! What goes out is handed to a [`Sink`] of the caller's: always the first message that can go out, to the oldest
-//! subscription that may take it. A subscription has at most 16 unanswered deliveries, and a message that comes back
-//! stands in its old place.
+//! subscription that may take it. A subscription has at most 16 unanswered deliveries, and a message that comes back is
+//! in its old place.
 //!
 //! What a SEND brought and the names of subscriptions are shared, so that no body is copied. Answers and the end of
-//! subscriptions take no memory: what they put back has its room from the SEND and the SUBSCRIBE. Where memory is
-//! refused, a call has changed nothing, but that a dispatch may have handed out some messages before.
+//! subscriptions allocate nothing: what they put back has its room from the SEND and the SUBSCRIBE. If an allocation
+//! fails, a call has changed nothing, but that a dispatch may have delivered some messages before.
 //!
 //! What a call costs is in no contract. As the code stands, a message is found by its number and a key, a destination
 //! by its name and a session's subscriptions by its number; an answer goes through the deliveries to the session's

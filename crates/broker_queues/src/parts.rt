@@ -52,7 +52,7 @@ impl Parts {
     /// Puts in a message that is ready, and gives its key.
     ///
     /// # Errors
-    /// Where memory is refused; then an idle queue goes at most.
+    /// If an allocation fails; then an idle queue goes at most.
     fn store(
         &mut self,
         sent: &Shared<Sent>,
@@ -64,6 +64,7 @@ impl Parts {
         requires told { HasTold (queue_at self.old.destinations) sent.now.destination told }
         ensures { Stores (holding_of self.old) sent.now (holding_of self.new) result }
     {
+        // Room for the name first: a message that nobody is woken for would wait for good.
         self.active.make_room(&self.destinations)?;
         let number = self.last + 1;
         let name = &sent.get().destination;
@@ -91,13 +92,13 @@ impl Parts {
     /// Puts in a message that is ready, and gives its key; its number is the next one.
     ///
     /// # Errors
-    /// Where its destination has `full` messages, no number is left, or memory is refused; then nothing has changed but
-    /// that an idle queue goes.
+    /// Where its destination has `full` messages, no number is left, or an allocation fails; then nothing has changed
+    /// but that an idle queue goes.
     pub fn put(&mut self, full: usize, sent: &Shared<Sent>) -> Result<usize, QueueFault>
         requires { IsSound (holding_of self.old) }
         ensures { PutsIn full (holding_of self.old) sent.now (holding_of self.new) result }
     {
-        // Looked up once: what its queue tells spares the calls behind a look, and they find the name by the hint that
+        // Looked up once: what its queue tells spares the calls after a look, and they find the name by the hint that
         // this leaves.
         let told = self.destinations.seek(&sent.get().destination);
         if told_count(told) >= full {
@@ -111,7 +112,7 @@ impl Parts {
     }
 
     /// Takes out a message that is gone, and its destination with it if nothing goes there any more and none listens.
-    /// Any other message stays. It takes no memory.
+    /// Any other message stays. It allocates nothing.
     pub fn purge(&mut self, number: u64, key: usize)
         ensures sweeps { Sweeps (holding_of self.old) (holding_of self.new) }
         ensures taken { TakesOut (holding_of self.old) number (holding_of self.new) }

@@ -44,7 +44,7 @@ impl<const FULL: usize> Model for Queues<FULL> {
 }
 
 impl<const FULL: usize> Queues<FULL> {
-    /// Nothing has happened yet. It takes no memory.
+    /// Nothing has happened yet. It allocates nothing.
     pub fn new(alloc: Global) -> Self
         ensures { result ≡ empty_book }
     {
@@ -84,8 +84,8 @@ impl<const FULL: usize> Queues<FULL> {
     /// brings is shared and not copied.
     ///
     /// # Errors
-    /// `QueueFull` where its destination holds `FULL` messages, `TooMany` where no number is left, `Memory` where a
-    /// growth was refused. Then nothing has changed.
+    /// `QueueFull` where its destination holds `FULL` messages, `TooMany` where no number is left, `Memory` if an
+    /// allocation fails. Then nothing has changed.
     pub fn put(&mut self, sent: &Shared<Sent>) -> Result<(), QueueFault>
         ensures { UnlessMemory (put_of FULL self.old sent.now) self.old self.new result }
     {
@@ -93,7 +93,7 @@ impl<const FULL: usize> Queues<FULL> {
         Ok(())
     }
 
-    /// The SENDs accepted since they were last taken, the oldest first. It takes no memory.
+    /// The SENDs accepted since they were last taken, the oldest first. It allocates nothing.
     pub fn take_accepted(&mut self) -> Vec<Accepted>
         ensures accepted { result.items ≡ self.old.accepted }
         ensures rest { self.new ≡ record self.old { accepted = [] } }
@@ -105,7 +105,7 @@ impl<const FULL: usize> Queues<FULL> {
     /// [`has_named`](Queues::has_named) tells. Its texts are shared and not copied.
     ///
     /// # Errors
-    /// `Memory` where a growth was refused, and then nothing has changed.
+    /// `Memory` if an allocation fails, and then nothing has changed.
     pub fn subscribe(&mut self, subscription: &Subscription) -> Result<(), QueueFault>
         requires { list_any (is_named subscription.now.session subscription.now.id) self.old.subscriptions ≡ false }
         ensures ok { OnOk result (self.new ≡ subscribed self.old subscription.now) }
@@ -158,15 +158,15 @@ impl<const FULL: usize> Queues<FULL> {
         self.parts.messages.unanswered()
     }
 
-    /// Ends a session's subscription of this name: what is out to it is ready again, in its old place. It takes no
-    /// memory.
+    /// Ends a session's subscription of this name: what is out to it is ready again, in its old place. It allocates
+    /// nothing.
     pub fn release(&mut self, session: u64, id: &Text)
         ensures { self.new ≡ released self.old session id.now }
     {
         self.parts.release(session, id)
     }
 
-    /// Ends all subscriptions of a session: what is out to them is ready again, in its old place. It takes no memory.
+    /// Ends all subscriptions of a session: what is out to them is ready again, in its old place. It allocates nothing.
     pub fn end(&mut self, session: u64)
         ensures { self.new ≡ ended self.old session }
     {
@@ -181,7 +181,7 @@ impl<const FULL: usize> Queues<FULL> {
     }
 
     /// An ACK of a session (STOMP 1.2, section "ACK"): the message that is out as this delivery is gone, and in mode
-    /// `client` those of the subscription's earlier deliveries. It takes no memory.
+    /// `client` those of the subscription's earlier deliveries. It allocates nothing.
     ///
     /// # Errors
     /// `NoSuchAck` where no such delivery is out to the session, and then nothing has changed.
@@ -192,7 +192,7 @@ impl<const FULL: usize> Queues<FULL> {
     }
 
     /// A NACK of a session (STOMP 1.2, section "NACK"): the message that is out as this delivery is ready again, in its
-    /// old place, and in mode `client` those of the subscription's earlier deliveries. It takes no memory.
+    /// old place, and in mode `client` those of the subscription's earlier deliveries. It allocates nothing.
     ///
     /// # Errors
     /// `NoSuchAck` where no such delivery is out to the session, and then nothing has changed.
@@ -205,19 +205,19 @@ impl<const FULL: usize> Queues<FULL> {
     /// The actions of a session's transaction: all in order, or none.
     ///
     /// # Errors
-    /// The first fault of an action, as `put`, `ack` and `nack` have them behind those before, or `Memory` where a
-    /// growth was refused. Then nothing has changed.
+    /// The first fault of an action, as `put`, `ack` and `nack` have them after those before, or `Memory` if an
+    /// allocation fails. Then nothing has changed.
     pub fn apply(&mut self, session: u64, actions: &[Action]) -> Result<(), QueueFault>
         ensures { UnlessMemory (apply_of FULL session self.old actions.now) self.old self.new result }
     {
         self.parts.apply(FULL, session, actions, &mut self.accepted)
     }
 
-    /// Hands out what is ready until no message can go out: always the first that can, to the oldest subscription that
+    /// Delivers what is ready until no message can go out: always the first that can, to the oldest subscription that
     /// may take it.
     ///
     /// # Errors
-    /// Where memory is refused, here or by the sink. Then some messages may have been handed out, each of them wholly.
+    /// If an allocation fails, here or by the sink. Then some messages may have been delivered, each of them wholly.
     pub fn dispatch<S: Sink>(&mut self, sink: &mut S) -> Result<(), AllocError>
         ensures { Dispatches S.takes self.old sink.old self.new sink.new result }
     {

@@ -1,4 +1,4 @@
-//! What takes what is handed out.
+//! What takes what is delivered.
 
 ghost use Rattle.std.specs.Prelude.{◌≡◌, OnOk, OnErr, Option};
 ghost use Rattle.broker_book.specs.Steps.{Handed};
@@ -6,7 +6,7 @@ ghost use Rattle.broker_book.specs.Steps.{Handed};
 use broker_book::{Sent, Subscription};
 use std::alloc::AllocError;
 
-/// What takes messages that are handed out, one at a time.
+/// What takes messages that are delivered, one at a time.
 pub trait Sink {
     /// What it is after one.
     ghost takes: { Self → Handed → Self → Type 0 };
@@ -15,7 +15,7 @@ pub trait Sink {
     /// `ack`, or with no number in mode `auto`.
     ///
     /// # Errors
-    /// Where memory is refused; then nothing has changed.
+    /// If an allocation fails; then nothing has changed.
     fn deliver(
         &mut self,
         number: u64,

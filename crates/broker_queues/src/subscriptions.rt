@@ -25,7 +25,7 @@ impl Parts {
     /// Lists a subscriber, the youngest, at its destination and at its session.
     ///
     /// # Errors
-    /// Where memory is refused; then an idle queue goes at most.
+    /// If an allocation fails; then an idle queue goes at most.
     fn attach(&mut self, name: &Text, session: u64, place: KeyedPlace) -> Result<(), AllocError>
         requires { All (λ p. p.number < place.number) (queue_of (queue_at self.old.destinations) name.now).subscribers }
         ensures { Attaches (holding_of self.old) name.now session place (holding_of self.new) result }
@@ -47,7 +47,7 @@ impl Parts {
     /// Adds a subscription, the youngest; its session has none of its name. Its texts are shared.
     ///
     /// # Errors
-    /// Where memory is refused; then nothing has changed but that an idle queue goes.
+    /// If an allocation fails; then nothing has changed but that an idle queue goes.
     pub fn subscribe(&mut self, subscription: &Subscription) -> Result<(), AllocError>
         requires sound { IsSound (holding_of self.old) }
         requires free { list_any (is_named subscription.now.session subscription.now.id)
@@ -55,6 +55,7 @@ impl Parts {
         ensures joins { SubscribesTo (holding_of self.old) subscription.now (holding_of self.new) result }
         ensures messages { self.new.messages ≡ self.old.messages }
     {
+        // Room for the name first: a subscriber whose destination sleeps would get nothing.
         self.active.make_room(&self.destinations)?;
         let place = self.subscribers.push(subscription)?;
         let name = subscription.destination.get();
@@ -124,7 +125,7 @@ impl Parts {
     }
 
     /// Ends a session's subscription of this name: what is out to it is ready again, in its old place. Where there is
-    /// none, nothing changes. It takes no memory.
+    /// none, nothing changes. It allocates nothing.
     pub fn release(&mut self, session: u64, id: &Text)
         ensures { ReleasesNamed (holding_of self.old) session id.now (holding_of self.new) }
     {
@@ -150,7 +151,7 @@ impl Parts {
         }
     }
 
-    /// Whether a delivery to a subscriber of a session is.
+    /// Whether a delivery to a subscriber of a session is unanswered.
     pub fn has_unanswered(&self, session: u64) -> bool
         ensures { result ≡ list_any (waits_at self.now.subscribers) (places_at self.now.sessions session) }
     {
@@ -160,7 +161,7 @@ impl Parts {
             .any(|place| self.waits_at(place))
     }
 
-    /// The place of its oldest one.
+    /// The place of a session's oldest subscriber.
     fn first_place(&self, session: u64) -> Option<KeyedPlace>
         ensures { result ≡ slice_get (places_at self.now.sessions session) 0 }
     {
@@ -176,7 +177,7 @@ impl Parts {
         }
     }
 
-    /// Ends all subscriptions of a session: what is out to them is ready again, in its old place. It takes no memory.
+    /// Ends all subscriptions of a session: what is out to them is ready again, in its old place. It allocates nothing.
     pub fn end(&mut self, session: u64)
         ensures { EndsAll (holding_of self.old) session (holding_of self.new) }
     {

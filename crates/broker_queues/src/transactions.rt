@@ -40,7 +40,7 @@ pub struct UndoLog {
     pub keys: Vec<usize>,
 }
 
-/// One more, where that isn't above the most that can be.
+/// The count with one more, where that isn't above the most that can be.
 fn one_more(count: usize, most: usize) -> usize
     ensures { count < most → result ≡ count + 1 }
 {
@@ -92,7 +92,7 @@ impl Parts {
         }
     }
 
-    /// The same within a transaction.
+    /// Accepts a SEND within a transaction, and notes the key of its message.
     fn put_noted(
         &mut self,
         full: usize,
@@ -104,7 +104,7 @@ impl Parts {
         ensures { Acts (λ b. put_of full b sent.now) (holding_of self.old) undo_log.old.answers.items accepted.old.items
             (holding_of self.new) undo_log.new.answers.items accepted.new.items result }
     {
-        // Room first: behind the put, the push must not fail.
+        // Room first: after the put, the push must not fail.
         undo_log.keys.reserve(1)?;
         let key = self.put_accepted(full, sent, accepted)?;
         undo_log.keys.push(key)?;
@@ -114,7 +114,7 @@ impl Parts {
     /// Notes the message of a subscriber's delivery, if an answer to the delivery `answered` counts for it.
     ///
     /// # Errors
-    /// Where memory is refused; then nothing is noted.
+    /// If an allocation fails; then nothing is noted.
     fn note_one(
         &self,
         entry: &Entry,
@@ -144,7 +144,7 @@ impl Parts {
     /// Notes the messages of the subscriber at a place for which an answer to the delivery `answered` counts.
     ///
     /// # Errors
-    /// Where memory is refused; then some of them are noted.
+    /// If an allocation fails; then some of them are noted.
     fn note_all(
         &self,
         place: KeyedPlace,
@@ -165,7 +165,7 @@ impl Parts {
     /// An ACK of a session within a transaction, or a NACK where the messages are to be ready again.
     ///
     /// # Errors
-    /// Where no delivery of this number is out to the session, or memory is refused.
+    /// Where no delivery of this number is out to the session, or an allocation fails.
     fn answer_noted(
         &mut self,
         session: u64,
@@ -185,7 +185,7 @@ impl Parts {
         Ok(())
     }
 
-    /// One action of a session's transaction.
+    /// Does one action of a session's transaction.
     fn act(
         &mut self,
         full: usize,
@@ -253,7 +253,7 @@ impl Parts {
         self.purge(number, key);
     }
 
-    /// Takes out the message that came last, and gives back its number.
+    /// Takes out the message that came last, and returns its number.
     fn unput(&mut self, key: usize)
         ensures begun { Unputs (holding_of self.old) (holding_of self.new) }
         ensures last { self.new.last ≡ self.old.last - 1 }
@@ -263,7 +263,7 @@ impl Parts {
         self.last = last;
     }
 
-    /// Takes out the messages that came behind the number `last`; the keys are those of the last ones.
+    /// Takes out the messages that came after the number `last`; the keys are those of the last ones.
     fn unput_all(&mut self, last: u64, keys: &mut Vec<usize>)
         ensures { UnputsAll (holding_of self.old) last (holding_of self.new) }
     {
@@ -310,8 +310,8 @@ impl Parts {
         }
     }
 
-    /// Undoes the steps of a transaction that began when `last` was the last message's number. It does the same where
-    /// memory is refused.
+    /// Undoes the steps of a transaction that began when `last` was the last message's number. It does the same if an
+    /// allocation fails.
     fn undo(&mut self, last: u64, undo_log: &mut UndoLog)
         ensures { Undoes (holding_of self.old) last undo_log.old.answers.items (holding_of self.new) }
     {
@@ -336,7 +336,7 @@ impl Parts {
     /// The actions of a session's transaction: all in order, or none.
     ///
     /// # Errors
-    /// The first fault of an action, or `Memory` where a growth was refused. Then nothing of the book has changed.
+    /// The first fault of an action, or `Memory` if an allocation fails. Then nothing of the book has changed.
     pub fn apply(
         &mut self,
         full: usize,

@@ -23,6 +23,7 @@ read_in_turn full n old before (f ∷ feeds) new after h =
     Consumes-trans before h.1 after f.piece (flat_map (λ (x : Fed). x.piece) feeds) h.2.0.octets
     (read_in_turn full n h.0 h.1 feeds new after h.2.1)
 
+-- what was read from a stream is handled once and in order
 pub read_is_handled : ReadIsHandled
 read_is_handled full n old new before after feeds s h found none = record {
   text = flat_map (λ (x : Fed). x.piece) feeds;

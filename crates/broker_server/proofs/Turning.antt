@@ -20,6 +20,7 @@ use Rattle.broker_server.specs.declared.turn.Written.TheVariants.{All, Blocked, 
 
 -- ---- reading
 
+-- octets that were read and then fed are a turn of reading
 pub read_whole : (full n : ℕ) (old new : Server) (before after : Option (List ℕ)) (buffer : List ℕ)
     (count frames : ℕ) (p : Piece)
     → p ≡ Octets count → PieceAnswer before after buffer (Ok p) → Feeds full old n (take count buffer) new frames

@@ -9,6 +9,7 @@ const SPARES: usize = 8;
 
 /// The octets of a block of the reserve: allocators serve what is much larger from elsewhere, and give it back to the
 /// system.
+// Two of them are enough for bodies of 90,000 octets.
 const BLOCK: usize = 98_304;
 
 /// A buffer that connections are read into, and spare ones: where a session has no memory for what was read, the buffer
@@ -21,7 +22,7 @@ pub(crate) struct Buffers {
 }
 
 impl Buffers {
-    /// All of them. None is taken later.
+    /// All buffers. They are allocated at the start, and not when they are needed: there may be no memory then.
     pub(crate) fn new(alloc: Global) -> Result<Buffers, AllocError> {
         let current = Vec::from_elem(alloc, 0u8, MOST)?;
         let mut spares = Vec::with_capacity(alloc, SPARES)?;
@@ -40,8 +41,8 @@ impl Buffers {
         &mut self.current
     }
 
-    /// The buffer that was read into, which is to keep what it holds; none where there is no spare one. It takes no
-    /// memory.
+    /// The buffer that was read into, which is to keep what it holds; none where there is no spare one. It allocates
+    /// nothing.
     pub(crate) fn keep(&mut self) -> Option<Vec<u8>> {
         let spare = self.spares.pop()?;
         Some(replace(&mut self.current, spare))
@@ -64,7 +65,7 @@ impl Buffers {
 }
 
 /// Memory that is kept for deals and for answers: where one was refused it is let go, so that others can be made. As far
-/// as memory isn't refused, it is taken again behind the writing.
+/// as memory isn't refused, it is taken again after the writing.
 #[derive(Drop)]
 pub(crate) struct Reserve {
     alloc: Global,
@@ -73,7 +74,7 @@ pub(crate) struct Reserve {
 }
 
 impl Reserve {
-    /// All of it.
+    /// The whole reserve.
     pub(crate) fn new(alloc: Global) -> Result<Reserve, AllocError> {
         Ok(Reserve {
             alloc,
@@ -84,6 +85,7 @@ impl Reserve {
 
     /// Gives it to the allocator.
     pub(crate) fn let_go(&mut self) {
+        // An empty vector has no memory: the blocks are free at once.
         self.first = Vec::new(self.alloc);
         self.second = Vec::new(self.alloc);
     }

@@ -28,9 +28,10 @@ const MAX_HEAD: usize = 35 * (MAX_LINE + 2) + 1;
 
 /// The octets for a session that may be left after a write: 8 MiB besides as many of the longest messages as a
 /// subscription has out.
+// With 8 MiB in all, a client that takes bodies of 1 MiB would be dropped at the first write.
 const MAX_UNREAD: usize = 8_388_608 + MAX_UNANSWERED * (MAX_HEAD + MAX_BODY);
 
-/// The octets that are thrown away behind the end of a session.
+/// The octets that are thrown away after the end of a session.
 const MAX_THROWN: usize = 67_108_864;
 
 /// How far a connection has come.
@@ -44,13 +45,13 @@ enum Stage {
     Draining,
 }
 
-/// What waits since memory was refused to it. Nothing is read meanwhile, so that the system's buffers hold the client
-/// back.
+/// What waits since an allocation for it failed. Nothing is read meanwhile, so that the system's buffers hold the
+/// client back.
 #[derive(Drop)]
 enum Due {
     /// Nothing.
     Nothing,
-    /// Frames that the session was fed, or deals behind them.
+    /// Frames that the session was fed, or deals after them.
     Frames,
     /// Octets that the session didn't take: the first so many of a buffer.
     Octets(Vec<u8>, usize),
@@ -61,7 +62,7 @@ enum Due {
 pub(crate) enum ConnectionStep {
     /// The connection stays as far as it was.
     Stays,
-    /// So it does, and something of it waits for memory.
+    /// The connection stays as far as it was, and something of it waits for memory.
     Waits,
     /// Its session was taken away. The connection has some time left to tell the rest.
     Leaves(Ending),
@@ -99,6 +100,7 @@ pub(crate) struct Connection {
 
 /// What a connection asks of its socket, all the time.
 pub(crate) fn both_ways() -> Interest {
+    // Both, all the time: what a socket is asked for never has to change.
     Interest::READABLE | Interest::WRITABLE
 }
 
@@ -132,7 +134,7 @@ impl Connection {
         self.place
     }
 
-    /// Whether it is the one that stood at a place.
+    /// Whether it is the one that was at a place.
     pub(crate) fn is_at(&self, place: ConnectionPlace) -> bool {
         self.place.number == place.number
     }
@@ -151,14 +153,17 @@ impl Connection {
         if event.is_writable() {
             self.is_blocked = false;
         }
+        // Only a read finds the end of a socket, or why it failed.
         let has_more = event.is_readable() || event.is_read_closed() || event.is_error();
         let step = match self.stage {
             _ if !has_more => ConnectionStep::Stays,
+            // What waits came before: nothing is read until it's handled.
             _ if self.is_waiting() => self.end_if_failed(broker, event, work),
             Stage::Serving => self.read_if_room(alloc, registry, broker, event, work),
             Stage::Leaving(_) | Stage::Draining => self.throw_away(registry, work),
         };
         let stays = matches!(step, ConnectionStep::Stays | ConnectionStep::Waits);
+        // Where it wasn't blocked its octets are written at the end of the turn, together with the others'.
         if stays && was_blocked && !self.is_blocked {
             return match self.write(registry, broker, work) {
                 ConnectionStep::Stays => step,
@@ -183,7 +188,7 @@ impl Connection {
     }
 
     /// Reads for its session, unless it is held back, and notes whether it sends. Who has shut its side isn't held back
-    /// by the limit: only a read finds its end, and no more comes than its socket holds. Where memory is refused it waits
+    /// by the limit: only a read finds its end, and no more comes than its socket holds. If an allocation fails, it waits
     /// as if some had been refused to it.
     fn read_if_room<const FULL: usize>(
         &mut self,
@@ -194,10 +199,12 @@ impl Connection {
         work: &mut Work,
     ) -> ConnectionStep {
         let is_to_wait = self.is_to_wait(broker, work);
-        // What it has sent behind a failure would get no answer.
+        // What it has sent after a failure would get no answer.
         if is_to_wait && event.is_error() {
             return self.end(broker, Ending::Stream);
         }
+        // A client that has shut its side and isn't read would keep its descriptor: producers that reconnect would take
+        // them all.
         self.is_held_back = is_to_wait && !event.is_read_closed();
         if self.is_held_back {
             work.room.holds_back = true;
@@ -206,9 +213,11 @@ impl Connection {
         if is_to_wait && self.is_short(broker, work) {
             return self.wait(alloc, registry, broker, work, Due::Frames);
         }
+        // Whoever sends once counts as sending from then on: nothing has to be compared.
         if self.sends {
             return self.read(alloc, registry, broker, event, work);
         }
+        // Taken away first: what is there after the read was accepted of this connection.
         take_accepted(broker, work);
         let kept = broker.kept(self.session);
         let step = self.read(alloc, registry, broker, event, work);
@@ -224,17 +233,20 @@ impl Connection {
         kept: u64,
     ) {
         let has_sent = take_accepted(broker, work) || broker.kept(self.session) > kept;
+        // A client that sent once mostly sends again.
         self.sends = self.sends || has_sent;
     }
 
-    /// Whether memory is refused, and what its open transactions keep gives none back.
+    /// Whether there is no memory, and what its open transactions keep gives none back.
     fn is_short<const FULL: usize>(&self, broker: &Broker<FULL>, work: &Work) -> bool {
+        // Senders that are read would take each octet that comes free, and a consumer's ACK would wait for good.
         work.room.is_short() && !self.keeps(broker)
     }
 
-    /// Whether it isn't to be read now, since so much is held, or memory is refused and what it sends gives none back.
+    /// Whether it isn't to be read now, since so much is held, or there is no memory and what it sends gives none back.
     fn is_to_wait<const FULL: usize>(&self, broker: &Broker<FULL>, work: &Work) -> bool {
         let is_full = work.room.is_full_for(self.place.number) || self.is_short(broker, work);
+        // Asked last, as it goes through the session's subscriptions.
         let has_unanswered = is_full && broker.has_unanswered(self.session);
         is_held_back(is_full, self.sends, has_unanswered)
     }
@@ -267,6 +279,7 @@ impl Connection {
             return ConnectionStep::Stays;
         }
         self.is_held_back = false;
+        // It wasn't silent, only not read.
         self.heard = work.now;
         if !self.ask_again(registry) {
             return self.end(broker, Ending::Stream);
@@ -328,6 +341,7 @@ impl Connection {
 
     /// Notes what it brought, and how much it may read next.
     fn note(&mut self, brought: Brought, work: &mut Work) {
+        // A read in vain says nothing of how much comes at once.
         if brought.octets > 0 {
             self.heard = work.now;
             self.share = next_share(self.share, brought, work.frames);
@@ -448,7 +462,7 @@ impl Connection {
         ConnectionStep::Stays
     }
 
-    /// Writes what is left for its session, or behind it. What was fresh may have been a delivery, behind which it is
+    /// Writes what is left for its session, or after it. What was fresh may have been a delivery, after which it is
     /// read again where it was held back.
     pub(crate) fn write<const FULL: usize>(
         &mut self,
@@ -501,6 +515,7 @@ impl Connection {
                 }
             }
         }
+        // Tested after the write, so that a client that reads again isn't dropped for what it takes now.
         if broker.out(self.session).len() > MAX_UNREAD {
             return self.end(broker, Ending::Unread);
         }
@@ -529,7 +544,7 @@ impl Connection {
         }
     }
 
-    /// Throws away what comes in behind the end of its session.
+    /// Throws away what comes in after the end of its session.
     fn throw_away(&mut self, registry: &Registry, work: &mut Work) -> ConnectionStep {
         let buffer = work.buffers.current();
         if buffer.is_empty() {
@@ -542,6 +557,7 @@ impl Connection {
                 self.has_ended = true;
                 match self.stage {
                     Stage::Draining => ConnectionStep::Closes,
+                    // What is left for it is still written.
                     Stage::Serving | Stage::Leaving(_) => ConnectionStep::Stays,
                 }
             }
@@ -589,6 +605,7 @@ impl Connection {
         if broker.out(self.session).len() > MAX_UNREAD {
             return self.end(broker, why);
         }
+        // The session goes now, and not when all is written: what was out to it is dealt to others.
         let Ok(rest) = Rest::of(alloc, broker, self.session) else {
             return ConnectionStep::Ends(why);
         };
@@ -605,6 +622,8 @@ impl Connection {
     /// All is written: shuts this side. Whether the connection is over by that.
     fn is_over_by_shutting(&mut self) -> bool {
         self.stage = Stage::Draining;
+        // Shut and not closed: a socket that is closed with octets unread resets the connection, and an ERROR could be
+        // lost.
         self.has_ended || self.stream.shutdown(Shutdown::Write).is_err()
     }
 
@@ -627,6 +646,7 @@ impl Connection {
     }
 
     /// Has the socket tell again of what it is ready for now; `false` where it doesn't.
+    // The poll reports each change once. To register the socket again makes it report what is there by now.
     fn ask_again(&mut self, registry: &Registry) -> bool {
         registry
             .reregister(&mut self.stream, Token(self.place.key), both_ways())

@@ -56,7 +56,7 @@ struct Leave {
 ///
 /// A key is given again, so one that was kept may be that of another connection now. What leaves and what waits is kept
 /// with the number of its session, and a connection of another number isn't it. An event has room for the key alone,
-/// and events that were gathered at once are handled over several turns, between which connections are taken in. But
+/// and events that were gathered at once are handled over several turns, between which connections are accepted. But
 /// numbers rise: a connection whose number is above all that there were when the events were gathered was opened since,
 /// and none of them is its own. One whose number isn't had its key then, and the system tells nothing of a socket that
 /// was closed before.
@@ -69,7 +69,7 @@ pub(crate) struct Connections {
     waiting: VecDeque<ConnectionPlace>,
     /// What all of them hold, where there is a limit.
     holding: Holding,
-    /// The highest number that was taken in.
+    /// The highest number that was accepted.
     last: u64,
     /// What that was when the events were gathered.
     gathered: u64,
@@ -78,7 +78,7 @@ pub(crate) struct Connections {
 }
 
 impl Connections {
-    /// No connection. It takes no memory.
+    /// No connection. It allocates nothing.
     pub(crate) fn new(alloc: Global) -> Connections {
         Connections {
             alloc,
@@ -98,8 +98,8 @@ impl Connections {
         self.open.len()
     }
 
-    /// Takes in a connection and opens its session: the answer is its number. Where that fails the connection is
-    /// closed, and nothing else has changed. There is room then to note that it waits for memory.
+    /// Accepts a connection and opens its session: the answer is its number. Where that fails the connection is closed,
+    /// and nothing else has changed. There is room then to note that it waits for memory.
     pub(crate) fn take_in<const FULL: usize>(
         &mut self,
         registry: &Registry,
@@ -108,12 +108,14 @@ impl Connections {
         now: Instant,
     ) -> io::Result<u64> {
         stream.set_nodelay(true)?;
+        // Room in each list first: after these lines nothing has to be undone but the session.
         self.open.reserve(1)?;
         self.places.reserve()?;
         self.waiting.reserve(self.open.len().saturating_add(1))?;
         let Ok(session) = broker.open() else {
             return Err(io::Error::from(ErrorKind::OutOfMemory));
         };
+        // The socket is registered under the key that its connection will have in the slab.
         let place = ConnectionPlace {
             key: self.open.vacant_key(),
             number: session.number(),
@@ -159,6 +161,7 @@ impl Connections {
         let Token(key) = event.token();
         if let Some(connection) = self.open.get_mut(key) {
             let place = connection.place();
+            // A connection that came since the events were gathered may have the key of one that is gone.
             if place.number <= self.gathered {
                 let step = connection.handle(self.alloc, registry, broker, event, work);
                 self.follow(broker, place, step, work, watch);
@@ -268,7 +271,7 @@ impl Connections {
     ) {
         work.room.spare(None);
         work.room.holds_back = false;
-        // From the end on: where one goes, those that stand behind it had their turn.
+        // From the end on: where one goes, those that are after it had their turn.
         for index in (0..self.places.len()).rev() {
             if let Some(place) = self.places.get(index) {
                 self.release(registry, broker, place, work, watch);
@@ -320,6 +323,7 @@ impl Connections {
         watch: &W,
         chosen: Chosen,
     ) {
+        // Each once: what still waits goes to the end of the list, after those that were there.
         for _ in 0..self.waiting.len() {
             let Some(place) = self.waiting.pop_front() else {
                 return;
@@ -350,6 +354,7 @@ impl Connections {
         watch: &W,
     ) -> bool {
         let mut some = false;
+        // Never so many: a loop needs a bound, and this one ends by its return.
         for _ in 0..u64::MAX {
             let Some(session) = broker.take_fresh() else {
                 return some;
@@ -373,7 +378,7 @@ impl Connections {
     }
 
     /// Ends those of which nothing came for so long, up to 256 of them: the answer is whether there may be more. It
-    /// takes no memory.
+    /// allocates nothing.
     pub(crate) fn end_idle<W: Watch, const FULL: usize>(
         &mut self,
         broker: &mut Broker<FULL>,
@@ -381,6 +386,7 @@ impl Connections {
         most: Duration,
         watch: &W,
     ) -> bool {
+        // Found first and ended then: to end one changes the slab that is looked through.
         let (found, count) = self.find_idle(work.now, most);
         for key in found.iter().take(count) {
             if let Some(connection) = self.open.get_mut(*key) {
@@ -394,6 +400,7 @@ impl Connections {
 
     /// The keys of some of which nothing came for so long, and how many.
     fn find_idle(&self, now: Instant, most: Duration) -> ([usize; IDLE], usize) {
+        // An array, since a list would allocate, and idle connections have to be closed also where there is no memory.
         let mut found = [0; IDLE];
         let mut count: usize = 0;
         for (key, connection) in self.open.iter() {
@@ -421,6 +428,7 @@ impl Connections {
     /// Closes a connection whose session was taken away before, where it isn't closed yet.
     fn close<W: Watch>(&mut self, place: ConnectionPlace, watch: &W) {
         let number = place.number;
+        // The key may be that of another connection by now.
         if let Some(connection) = self.open.get(place.key)
             && connection.is_at(place)
         {
@@ -438,6 +446,7 @@ impl Connections {
         place: ConnectionPlace,
         watch: &W,
     ) {
+        // Its room was made when it was accepted. Without a note it would never be read again, so it can't stay.
         if self.waiting.push_back(place).is_err() {
             broker.drop_session(SessionId::new(place.number));
             self.end(place.number, Ending::Memory, watch);
@@ -460,6 +469,7 @@ impl Connections {
         work: &mut Work,
         watch: &W,
     ) {
+        // Counted before the step is done: it may close the connection.
         self.count(broker, place, work);
         let number = place.number;
         match step {

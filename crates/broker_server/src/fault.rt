@@ -11,7 +11,7 @@ pub enum ServeFault {
     /// The system refused to wait for sockets.
     #[error("fault 2 Device")]
     Device,
-    /// A growth was refused before the first connection was taken.
+    /// An allocation failed before the first connection was taken.
     #[error("fault 34 Memory")]
     Memory,
 }
@@ -34,7 +34,7 @@ pub enum ReadFault {
     /// The read failed.
     #[error("the stream failed")]
     Stream,
-    /// Memory was refused to a frame, or to a deal behind it. The octets were taken: the next feed goes on where this
+    /// Memory was refused to a frame, or to a deal after it. The octets were taken: the next feed goes on where this
     /// one has stopped.
     #[error("out of memory: frames wait")]
     Waits,
@@ -49,7 +49,7 @@ pub enum TurnFault {
     /// A read or a write failed.
     #[error("the stream failed")]
     Stream,
-    /// A growth was refused.
+    /// An allocation failed.
     #[error("out of memory")]
     Memory,
 }

@@ -45,17 +45,16 @@
 //!   read too, as only it can end them.
 //! - So the limit is passed by the read that meets it, and by one read of each connection that sends its first message
 //!   then: 65,536 octets, or the frame that they complete. On top come what a client sends that leaves deliveries
-//!   unanswered meanwhile, the transactions of that one connection, and what stands in the socket of one whose client
-//!   has shut its side. Frames of which not all is there yet, one a connection at most, aren't counted, nor is what
-//!   memory is lost between blocks.
-//! - Where memory is refused to a frame, or to a deal behind it, its connection stays. It isn't read from until its
-//!   frames have gone on, and they are tried at each turn, behind the writing of what was dealt, which gives memory
-//!   back. Meanwhile it's found that its socket has failed, but not that its client has shut its side. Octets for which
-//!   there is no memory are kept in one of 8 buffers that were taken at the start; a connection for which none is free is
-//!   dropped.
-//! - Where memory is refused to a deal, 196,608 octets are let go that were taken at the start, and are taken again
-//!   once octets were written.
-//! - Where memory is refused to a new connection it is closed, and so is one whose session is over, and whose client
+//!   unanswered meanwhile, the transactions of that one connection, and what is in the socket of one whose client has
+//!   shut its side. Frames of which not all is there yet, one a connection at most, aren't counted, nor is what memory
+//!   is lost between blocks.
+//! - If an allocation fails for a frame, or for a deal after it, its connection stays. It isn't read from until its frames
+//!   have gone on, and they are tried at each turn, after the writing of what was dealt, which gives memory back.
+//!   Meanwhile it's found that its socket has failed, but not that its client has shut its side. Octets for which there is
+//!   no memory are kept in one of 8 buffers that were taken at the start; a connection for which none is free is dropped.
+//! - If an allocation fails for a deal, 196,608 octets are let go that were taken at the start, and are taken again once
+//!   octets were written.
+//! - If an allocation fails for a new connection, it is closed, and so is one whose session is over, and whose client
 //!   doesn't read, where there is none for what is left.
 #![tactic(auto)]
 

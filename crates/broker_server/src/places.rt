@@ -12,14 +12,14 @@ pub(crate) struct ConnectionPlace {
 }
 
 /// The places of all connections by rising numbers. A broker numbers its sessions in the order in which they are
-/// opened, so that a new one stands behind all others.
+/// opened, so that a new one is after all others.
 #[derive(Drop)]
 pub(crate) struct Places {
     rising: VecDeque<ConnectionPlace>,
 }
 
 impl Places {
-    /// None. It takes no memory.
+    /// No places. It allocates nothing.
     pub(crate) fn new(alloc: Global) -> Places {
         Places {
             rising: VecDeque::new(alloc),
@@ -42,7 +42,7 @@ impl Places {
         self.rising.len()
     }
 
-    /// The place that is so many places behind the lowest.
+    /// The place that is so many places after the lowest.
     pub(crate) fn get(&self, index: usize) -> Option<ConnectionPlace> {
         self.rising.get(index).copied()
     }
@@ -53,7 +53,7 @@ impl Places {
         self.get(index)
     }
 
-    /// Takes the place of a session away. It takes no memory, and is quick at both ends.
+    /// Takes the place of a session away. It allocates nothing, and is quick at both ends.
     pub(crate) fn remove(&mut self, number: u64) {
         if let Some(index) = self.index_of(number) {
             let _ = self.rising.remove(index);

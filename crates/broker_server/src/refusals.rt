@@ -1,4 +1,4 @@
-//! What an ERROR tells, as it stands behind a session's other octets.
+//! What an ERROR says, found at the end of a session's octets.
 
 /// Behind how many octets no ERROR begins: the longest tells a receipt of 128 octets.
 const LONGEST: usize = 1_024;
@@ -6,7 +6,7 @@ const LONGEST: usize = 1_024;
 /// How an ERROR begins.
 const HEAD: &[u8] = b"ERROR\ncontent-length:0\n";
 
-/// What stands before its message where a version was refused.
+/// What is before its message where a version was refused.
 const VERSION: &[u8] = b"version:1.2\n";
 
 /// How its message begins.
@@ -33,10 +33,11 @@ const REFUSALS: [&str; 17] = [
     "36 TooMany",
 ];
 
-/// The last frame of octets that end with one: behind the last NUL but that at the end, as far as an ERROR is long.
+/// The last frame of octets that end with one: after the last NUL but that at the end, as far as an ERROR is long.
 fn last_frame(octets: &[u8]) -> &[u8] {
     let from = octets.len().saturating_sub(LONGEST);
     let tail = &octets[from..];
+    // The last NUL is the ERROR's own: the one before ends the frame before it.
     let inside = &tail[..tail.len().saturating_sub(1)];
     match inside.iter().rposition(|octet| *octet == 0) {
         Some(place) => tail.get(place..).unwrap_or(&[]),

@@ -30,7 +30,7 @@ impl Model for Rest {
 }
 
 impl Rest {
-    /// Nothing. It takes no memory.
+    /// Nothing. It allocates nothing.
     pub fn new(alloc: Global) -> Rest
         ensures { result ≡ [] }
     {
@@ -51,7 +51,7 @@ impl Rest {
     /// ready again. It deals nothing.
     ///
     /// # Errors
-    /// `Memory` where a growth was refused: the session is away then too.
+    /// `Memory` if an allocation fails: the session is away then too.
     pub fn of<const FULL: usize>(
         alloc: Global,
         broker: &mut Broker<FULL>,
@@ -60,6 +60,7 @@ impl Rest {
         ensures rest { IfOk result (λ rest. rest ≡ out_in (session_of session broker.old)) }
         ensures dropped { broker.new ≡ dropped session broker.old (session_of session broker.old) }
     {
+        // Copied before the session goes, and its octets with it.
         let octets = broker.out(session).to_vec(alloc);
         broker.drop_session(session);
         match octets {

@@ -16,7 +16,7 @@ pub(crate) struct Limit {
 }
 
 impl Limit {
-    /// So many octets.
+    /// A limit of so many octets.
     fn new(most: u64) -> Limit
         ensures most { result.most ≡ most }
         ensures eased { result.eased ≡ most - most / 8 }
@@ -40,6 +40,7 @@ impl Limit {
 /// Whether a connection isn't read: one that has sent something, while the limit is met. One that has deliveries to
 /// answer is, as each answer gives memory back; and so is one that has sent nothing, as it may come to take something.
 pub(crate) fn is_held_back(is_full: bool, sends: bool, has_unanswered: bool) -> bool
+    // A hard limit would stop services that take, send and answer on one connection.
     ensures { result ≡ (is_full && sends && not has_unanswered) }
 {
     is_full && sends && !has_unanswered
@@ -60,14 +61,15 @@ impl Holding {
         Holding { kept: 0, unread: 0 }
     }
 
-    /// All of it.
+    /// All octets together.
     pub(crate) fn all(self) -> u64 {
         self.kept.saturating_add(self.unread)
     }
 
-    /// That of both.
+    /// What both hold.
     pub(crate) fn with(self, other: Holding) -> Holding {
         Holding {
+            // Saturating: a sum that is too large is above every limit as well.
             kept: self.kept.saturating_add(other.kept),
             unread: self.unread.saturating_add(other.unread),
         }
@@ -125,7 +127,8 @@ impl Room {
         self.is_full && self.spared != Some(number)
     }
 
-    /// Whether memory is refused to what is kept for deals and answers, so that who sends leaves what there is to them.
+    /// Whether there is no memory for what is kept for deals and answers, so that who sends leaves what there is to
+    /// them.
     pub(crate) fn is_short(&self) -> bool
         ensures { result ≡ self.now.is_short }
     {
@@ -139,7 +142,7 @@ impl Room {
         self.is_short = !is_whole;
     }
 
-    /// So much is held now.
+    /// Notes how much is held now.
     pub(crate) fn note(&mut self, held: u64) {
         if let Some(limit) = self.limit {
             self.is_full = limit.is_met(self.is_full, held);
@@ -148,6 +151,7 @@ impl Room {
 
     /// What is to be told where the limit is met since it was told last, or isn't any more.
     pub(crate) fn news(&mut self, held: u64) -> Option<News> {
+        // Reported once for each change.
         if self.is_full == self.was_told_full {
             return None;
         }

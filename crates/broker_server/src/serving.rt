@@ -21,7 +21,7 @@ const LISTENER: Token = Token(usize::MAX);
 /// The sockets that a turn handles.
 const EVENTS: usize = 128;
 
-/// The connections that a turn takes in.
+/// The connections that a turn accepts.
 const ACCEPTS: usize = 64;
 
 /// The milliseconds after which the loop looks at the stop, at the time, and at what was refused.
@@ -66,7 +66,7 @@ struct Server {
     look: Interval,
     /// When figures are told.
     figures: Interval,
-    /// Connections may wait to be taken in.
+    /// Connections may wait to be accepted.
     may_accept: bool,
     /// The system refused to take one in: it is tried again at each turn.
     was_refused: bool,
@@ -79,11 +79,11 @@ struct Server {
 /// Serves the connections of a listener by a broker, until it is asked to stop: those that are open then are closed,
 /// and their sessions are taken away.
 ///
-/// A turn waits for sockets, reads of each that is ready, takes in what waits, and writes all answers together.
+/// A turn waits for sockets, reads of each that is ready, accepts what waits, and writes all answers together.
 ///
 /// # Errors
 /// - `Device` where the system refuses to wait for sockets, or to tell the time;
-/// - `Memory` where a growth was refused before the first turn.
+/// - `Memory` if an allocation fails before the first turn.
 pub fn serve<R: Net + Wait + Clock, const FULL: usize>(
     rt: &R,
     alloc: Global,
@@ -94,8 +94,8 @@ pub fn serve<R: Net + Wait + Clock, const FULL: usize>(
     serve_watched(rt, alloc, broker, listener, stop, ServeOptions::new(), &())
 }
 
-/// The same, with options, and somebody who is told what happens. Where serving ends, all connections do, and none is
-/// told of.
+/// Serves as [`serve`] does, with options, and tells a [`Watch`] what happens. Where serving ends, all connections do,
+/// and none is reported.
 ///
 /// # Errors
 /// Those of [`serve`].
@@ -119,6 +119,7 @@ pub fn serve_watched<R: Net + Wait + Clock, W: Watch, const FULL: usize>(
             return Err(ServeFault::Device);
         }
     }
+    // `forever` has no end: only the returns leave the loop.
     unreachable!()
 }
 
@@ -146,6 +147,7 @@ impl Server {
             options,
             look: Interval::new(options.idle.map(|_| second), now),
             figures: Interval::new(options.figures, now),
+            // Tried at once, without waiting for a report: some may be there already.
             may_accept: true,
             was_refused: false,
             may_deal: false,
@@ -170,6 +172,7 @@ impl Server {
 
     /// Waits for sockets, where all that were ready have had their turn, and shares the turn's frames among them.
     fn gather(&mut self) -> io::Result<()> {
+        // Events that are left of the last turn come first: they aren't reported again.
         if self.handled >= self.events.iter().len() {
             let wait = self.wait();
             self.poll.poll(&mut self.events, Some(wait))?;
@@ -189,7 +192,9 @@ impl Server {
         watch: &W,
     ) -> io::Result<()> {
         self.gather()?;
+        // Once a turn, after the wait: all that happens in it happens at this time.
         self.work.now = Instant::now(rt)?;
+        // Before anything is read: what waits came before it.
         self.go_on(broker, watch);
         self.handle(broker, watch);
         if self.may_accept || self.was_refused {
@@ -199,6 +204,7 @@ impl Server {
         self.has_written = self
             .connections
             .write(self.poll.registry(), broker, &mut self.work, watch);
+        // After the writing: octets that are written leave their memory to the reserve.
         self.take_again();
         self.connections.expire(self.work.now, watch);
         self.connections
@@ -209,7 +215,7 @@ impl Server {
     }
 
     /// Has connections do what their sockets are ready for, in order, until all have or these are frames enough for a
-    /// turn: the next one goes on behind them.
+    /// turn: the next one goes on after them.
     fn handle<W: Watch, const FULL: usize>(&mut self, broker: &mut Broker<FULL>, watch: &W) {
         let most = self.work.figures.frames.saturating_add(FRAMES as u64);
         for event in self.events.iter().skip(self.handled) {
@@ -235,6 +241,7 @@ impl Server {
                 .connections
                 .end_idle(broker, &mut self.work, most, watch)
         {
+            // As many were found as are looked for at once: the others have their turn next.
             self.look.hurry(now);
         }
         if self.figures.is_due(now) {
@@ -245,7 +252,7 @@ impl Server {
         }
     }
 
-    /// Takes in the connections that wait, up to 64 of them.
+    /// Accepts the connections that wait, up to 64 of them.
     fn accept<W: Watch, const FULL: usize>(
         &mut self,
         broker: &mut Broker<FULL>,
@@ -253,16 +260,19 @@ impl Server {
         watch: &W,
     ) {
         let was_refused = self.was_refused;
+        // More may wait than are taken now, and they aren't reported again.
         self.may_accept = true;
         self.was_refused = false;
         for _ in 0..ACCEPTS {
             match listener.accept() {
                 Ok((stream, peer)) => self.take_in(broker, stream, peer, watch),
                 Err(error) => match error.kind() {
+                    // That one is gone, and others may wait after it.
                     ErrorKind::ConnectionAborted | ErrorKind::Interrupted => {}
                     kind => {
                         self.may_accept = false;
                         self.was_refused = kind != ErrorKind::WouldBlock;
+                        // Reported once, and not at each turn for as long as it lasts.
                         if self.was_refused && !was_refused {
                             watch.tell(News::Unaccepted { error });
                         }
@@ -332,13 +342,15 @@ impl Server {
         }
     }
 
-    /// Deals where a session was taken away, since messages may be ready again, and where memory was refused: for that
+    /// Deals where a session was taken away, since messages may be ready again, and if an allocation failed: for that
     /// is the reserve.
     fn deal<const FULL: usize>(&mut self, broker: &mut Broker<FULL>) {
         if self.connections.has_dropped || self.is_short() {
             self.connections.has_dropped = false;
+            // Dealing alone stops: if that ended connections, a queue of large bodies could never be emptied.
             self.may_deal = broker.dispatch().is_err();
             if self.may_deal {
+                // Deals that are made in this memory bring answers, and answers give memory back.
                 self.reserve.let_go();
                 self.may_deal = broker.dispatch().is_err();
             }

@@ -9,7 +9,7 @@ pub struct Stop {
 }
 
 impl Stop {
-    /// Nobody has asked yet. It takes no memory.
+    /// Nobody has asked yet. It allocates nothing.
     pub fn new() -> Stop {
         Stop {
             asked: AtomicBool::new(false),

@@ -50,13 +50,13 @@ pub enum Written {
 /// What a read gave.
 #[derive(Clone, Copy, Debug, PartialEq, Eq)]
 pub(crate) enum Piece {
-    /// So many octets.
+    /// A read of so many octets.
     Octets(usize),
-    /// None are there.
+    /// No octets are there now.
     Blocked,
     /// There will be none.
     Ended,
-    /// It is to be made again.
+    /// The read is to be made again.
     Interrupted,
 }
 
@@ -66,6 +66,7 @@ fn read_piece<S: Read>(stream: &mut S, buffer: &mut [u8]) -> Result<Piece, TurnF
     ensures { PieceAnswer (S.remaining stream.old) (S.remaining stream.new) buffer.new result }
 {
     match stream.read(buffer) {
+        // The buffer has room, so that no octets are the end.
         Ok(0) => Ok(Piece::Ended),
         Ok(count) => Ok(Piece::Octets(count)),
         Err(error) => match error.kind() {
@@ -77,13 +78,13 @@ fn read_piece<S: Read>(stream: &mut S, buffer: &mut [u8]) -> Result<Piece, TurnF
 }
 
 /// Feeds octets to an open session, and handles them as far as its frames are whole: the answer is how many frames.
-/// With no octets it goes on with the frames that wait since memory was refused to them.
+/// With no octets it goes on with the frames that wait since an allocation for them failed.
 ///
 /// # Errors
-/// - `Waits` where memory was refused behind the taking of the octets: the frames before were handled, and the next
-///   feed, also one of no octets, goes on where this one has stopped: no frame is lost or handled twice;
-/// - `Untaken` where memory was refused to the octets, never to none: nothing has changed, and they may be fed again.
-///   It tells how many.
+/// - `Waits` if an allocation failed after the taking of the octets: the frames before were handled, and the next feed,
+///   also one of no octets, goes on where this one has stopped: no frame is lost or handled twice;
+/// - `Untaken` if an allocation failed for the octets, never to none: nothing has changed, and they may be fed again. It
+///   tells how many.
 pub fn feed_in<const FULL: usize>(
     broker: &mut Broker<FULL>,
     session: SessionId,
@@ -96,21 +97,22 @@ pub fn feed_in<const FULL: usize>(
         Ok(frames) => Ok(frames),
         Err(BrokerFault::Memory { took: true }) => Err(ReadFault::Waits),
         Err(BrokerFault::Memory { took: false }) => Err(ReadFault::Untaken(piece.len())),
+        // The session is open, and none is opened here.
         Err(BrokerFault::NoSession) => unreachable!(),
         Err(BrokerFault::TooMany) => unreachable!(),
     }
 }
 
 /// Reads once from the stream of an open session, at most as many octets as `buffer` has, and feeds them to the
-/// session: each octet that was read is fed once, behind those before, and handled as far as its frames are whole. The
+/// session: each octet that was read is fed once, after those before, and handled as far as its frames are whole. The
 /// answer tells how many octets and frames that were.
 ///
 /// # Errors
 /// - `Stream` where the read failed, and then nothing was read;
-/// - `Waits` where memory was refused behind the taking of the octets. The session has all of them, and a later
-///   [`feed_in`], also one of no octets, goes on with its frames: what is read until then waits behind them;
-/// - `Untaken` where memory was refused to the octets themselves. The session has none of them, and nothing has
-///   changed: they are the first so many of `buffer`, of which the stream doesn't tell again, and may be fed later by
+/// - `Waits` if an allocation failed after the taking of the octets. The session has all of them, and a later
+///   [`feed_in`], also one of no octets, goes on with its frames: what is read until then waits after them;
+/// - `Untaken` if an allocation failed for the octets themselves. The session has none of them, and nothing has changed:
+///   they are the first so many of `buffer`, of which the stream doesn't tell again, and may be fed later by
 ///   [`feed_in`], before others.
 pub fn read_in<S: Read, const FULL: usize>(
     stream: &mut S,
@@ -126,6 +128,7 @@ pub fn read_in<S: Read, const FULL: usize>(
     let piece = match read_piece(stream, buffer) {
         Ok(piece) => piece,
         Err(TurnFault::Stream) => return Err(ReadFault::Stream),
+        // A read allocates nothing.
         Err(TurnFault::Memory) => unreachable!(),
     };
     match piece {
@@ -135,6 +138,7 @@ pub fn read_in<S: Read, const FULL: usize>(
                 octets: count,
                 frames,
             };
+            // A read that leaves room has emptied the socket: the poll reports what comes after it.
             if count < buffer.len() {
                 Ok((ReadTurn::Blocked, brought))
             } else {
@@ -177,6 +181,7 @@ pub(crate) fn write_some<S: Write>(
     match stream.write(octets) {
         Ok(0) => Err(TurnFault::Stream),
         Ok(count) if count == octets.len() => Ok((count, Written::All)),
+        // Only a full socket takes a part, and the poll reports when it takes more.
         Ok(count) => Ok((count, Written::Blocked)),
         Err(error) => match error.kind() {
             ErrorKind::WouldBlock => Ok((0, Written::Blocked)),
@@ -197,6 +202,7 @@ pub fn write_out<S: Write, const FULL: usize>(
 ) -> Result<Written, TurnFault>
     ensures { WriteAnswer session broker.old broker.new (S.contents stream.old) (S.contents stream.new) result }
 {
+    // Once and not to the end, so that no client holds up the others.
     let (count, written) = write_some(stream, broker.out(session))?;
     broker.taken(session, count);
     Ok(written)

@@ -17,7 +17,7 @@ pub enum Ending {
     /// A frame was refused: the number and the name that its ERROR tells.
     #[error("ERROR {0}")]
     Refused(&'static str),
-    /// The same, and what was wrong with the frame besides.
+    /// A frame was refused, as in `Refused`, and what was wrong with it besides.
     #[error("ERROR {0}: {1}")]
     RefusedFor(&'static str, Detail),
     /// More octets are left for it than may be.
@@ -39,13 +39,13 @@ pub enum Ending {
 pub struct Figures {
     /// The connections that there are now: those too whose session is over, while the rest is told to them.
     pub connections: u64,
-    /// The connections that were taken in.
+    /// The connections that were accepted.
     pub opened: u64,
     /// The frames that were handled.
     pub frames: u64,
     /// The messages that were accepted.
     pub accepted: u64,
-    /// The octets that were read, but for those behind which memory was refused.
+    /// The octets that were read, but for those after which an allocation failed.
     pub read: u64,
     /// The octets that were written.
     pub written: u64,
@@ -77,8 +77,9 @@ impl Figures {
         }
     }
 
-    /// A connection was taken in.
+    /// A connection was accepted.
     pub(crate) fn note_opened(&mut self) {
+        // Saturating, here and below: a figure that is full stays so.
         self.opened = self.opened.saturating_add(1);
     }
 
@@ -113,7 +114,7 @@ impl Figures {
 /// What happened. A connection is named by the number of its session, which no other has.
 #[derive(Clone, Copy, Debug)]
 pub enum News {
-    /// A connection was taken in.
+    /// A connection was accepted.
     Opened { number: u64, peer: SocketAddr },
     /// There is no memory for a new connection, or the system refuses it, and why: it is closed.
     Unopened { peer: SocketAddr, error: io::Error },
@@ -135,7 +136,7 @@ pub enum News {
 
 /// Who is told what happens, between the steps of the loop: as long as that takes, nobody is served.
 pub trait Watch {
-    /// This happened.
+    /// Reports what happened.
     fn tell(&self, news: News);
 }
 

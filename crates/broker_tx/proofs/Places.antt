@@ -70,6 +70,7 @@ all_fail : {X : Type 0} (p : X → Bool) (xs : List X) → nat_lt (position_or_l
     → list_any p (take (position_or_len p xs) xs) ≡ list_any p xs
 all_fail p xs e = ap (λ l. list_any p l) (take_all (position_or_len p xs) xs (ltb-false _ _ e))
 
+-- where a search finds no place, no element passes
 pub nowhere : {X : Type 0} (p : X → Bool) (xs : List X) → position p xs ≡ None → PassesNone p xs
 nowhere p xs e =
     let k = misses (nat_lt (position_or_len p xs) (length xs)) (position_or_len p xs) e in
@@ -107,6 +108,7 @@ at_first p xs x h e =
           ∙ sym (set_split xs at (f x) h);
     }
 
+-- the place that a search finds is the first that passes
 pub somewhere : {X : Type 0} (p : X → Bool) (xs : List X) (i : ℕ) → position p xs ≡ Some i → IsFirstAt p xs i
 somewhere p xs i e =
     let k = picks (nat_lt (position_or_len p xs) (length xs)) (position_or_len p xs) i e in

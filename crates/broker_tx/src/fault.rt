@@ -15,7 +15,7 @@ pub enum TransactionFault {
     /// No transaction of this name is open.
     #[error("30 NoTransaction: no transaction of this name is open")]
     NoTransaction,
-    /// A growth was refused.
+    /// An allocation failed.
     #[error("34 Memory: out of memory")]
     Memory,
     /// As many transactions are open as may be, or the transaction keeps as many actions as it may.
@@ -36,7 +36,7 @@ impl TransactionFault {
         }
     }
 
-    /// The name of the fault, as an ERROR tells it behind the number.
+    /// The name of the fault, as an ERROR tells it after the number.
     pub fn name(self) -> &'static str
         ensures { result.now ≡ transaction_fault_name self }
     {

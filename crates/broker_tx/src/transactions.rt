@@ -65,6 +65,7 @@ impl Open {
     {
         let octets = action.octets();
         self.actions.push(action)?;
+        // Counted once it's kept: where that fails the sum stays.
         self.octets = self.octets.wrapping_add(octets);
         Ok(())
     }
@@ -86,7 +87,7 @@ impl Model for Transactions {
 }
 
 impl Transactions {
-    /// No transaction. It takes no memory.
+    /// No transaction. It allocates nothing.
     pub fn new(alloc: Global) -> Transactions
         ensures { result ≡ [] }
     {
@@ -132,10 +133,11 @@ impl Transactions {
     /// The first that applies; then nothing has changed:
     /// - `TransactionExists` where one of this name is open;
     /// - `TooMany` where 16 are open;
-    /// - `Memory` where a growth was refused.
+    /// - `Memory` if an allocation fails.
     pub fn begin(&mut self, alloc: Global, name: &Text) -> Result<(), TransactionFault>
         ensures { UnlessMemory (begin_of self.old name.now) self.old self.new result }
     {
+        // A name that is taken is reported also where no further transaction would be let in.
         if self.has(name) {
             return Err(TransactionFault::TransactionExists);
         }
@@ -157,7 +159,7 @@ impl Transactions {
     /// The first that applies; then nothing has changed:
     /// - `NoTransaction` where none of this name is open;
     /// - `TooMany` where it keeps 256 actions;
-    /// - `Memory` where a growth was refused.
+    /// - `Memory` if an allocation fails.
     pub fn add(&mut self, name: &Text, action: Action) -> Result<(), TransactionFault>
         ensures { UnlessMemory (add_of self.old name.now action) self.old self.new result }
     {
@@ -173,7 +175,7 @@ impl Transactions {
         }
     }
 
-    /// Ends a transaction whose actions were carried out (STOMP 1.2, section "COMMIT"). It takes no memory.
+    /// Ends a transaction whose actions were carried out (STOMP 1.2, section "COMMIT"). It allocates nothing.
     ///
     /// # Errors
     /// `NoTransaction` where none of this name is open; then nothing has changed.
@@ -183,7 +185,7 @@ impl Transactions {
         self.end(name)
     }
 
-    /// Ends a transaction, whose actions are dropped (STOMP 1.2, section "ABORT"). It takes no memory.
+    /// Ends a transaction, whose actions are dropped (STOMP 1.2, section "ABORT"). It allocates nothing.
     ///
     /// # Errors
     /// `NoTransaction` where none of this name is open; then nothing has changed.
@@ -193,7 +195,7 @@ impl Transactions {
         self.end(name)
     }
 
-    /// Ends them all, and drops their actions. It takes no memory.
+    /// Ends them all, and drops their actions. It allocates nothing.
     pub fn clear(&mut self)
         ensures { self.new ≡ [] }
     {
@@ -203,6 +205,7 @@ impl Transactions {
     fn get(&self, name: &Text) -> Option<&Open>
         ensures { option_copied result ≡ find (is_transaction name.now) self.now }
     {
+        // A search through 16 at most.
         self.items.iter().find(|open| open.has_name(name))
     }
 
@@ -255,5 +258,6 @@ fn keep_at(items: &mut Vec<Open>, at: usize, action: Action) -> Result<(), Alloc
 fn end_in(items: &mut Vec<Open>, name: &Text)
     ensures { items.new.items ≡ filter (λ t. not (is_transaction name.now t)) items.old.items }
 {
+    // No other transaction has the name.
     items.retain(|open| !open.has_name(name));
 }

@@ -12,6 +12,7 @@ use Rattle.keep.specs.Tables.{Tables}
 use Rattle.endpoint.specs.Matches.{TablesMatchWithin, MayBeHeld}
 use Rattle.endpoint.specs.Parts.Handling.{Prepares}
 
+-- a seat's command is fit to be the next row: no mark and no held letter goes with it
 pub command-prepares : {S C : Type 0} (ahead : ℕ) (service : Service S C) (old : Tables S C) (e : Entity) (seat : ℕ)
     (command : C)
     (first : List (Change S C))

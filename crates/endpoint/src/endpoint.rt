@@ -89,17 +89,17 @@ where
         self.keep.usable()
     }
 
-    /// Takes in a command of a seat, 0 to 15, in one transaction: the journal has one more row, the entity's row is its
-    /// state then, and what it sends stands in the outbox, with the next numbers of each pair.
+    /// Processes a command of a seat, 0 to 15, in one transaction: the journal has one more row, the entity's row is
+    /// its state then, and what it sends is in the outbox, with the next numbers of each pair.
     ///
     /// Calls of the store: `entity`, one `sent` for each message that is sent, and one `apply_steps`.
     ///
     /// # Errors
     /// In this order: `Unusable`; `NotMine` where the entity is of another service; `NumberLimit` where the journal has
     /// 2^40 rows; `Business` where the reaction refuses the command; `NumberLimit` where a letter's number would be
-    /// above 2^40. `StoreFailed` and `Memory` may come at any call of the store and at any growth. After each of them
-    /// nothing is changed, but after `StoreFailed` the tables, once reopened, may also be those with the command taken
-    /// in.
+    /// above 2^40. `StoreFailed` and `Memory` may come at any call of the store and at any allocation. After each of
+    /// them nothing is changed, but after `StoreFailed` the tables, once reopened, may also be those with the command
+    /// processed.
     pub fn commit(
         &mut self,
         alloc: Global,
@@ -132,12 +132,12 @@ where
         )
     }
 
-    /// Opens the store again: the tables then are some that a stop may have left, and match their journal where all of
+    /// Reopens the store: the tables then are some that a crash may have left, and match their journal where all of
     /// these did. A usable endpoint may be reopened too.
     ///
     /// # Errors
-    /// `StoreFailed`, which is counted, or `Memory`. After either the endpoint isn't usable, a stop leaves nothing that
-    /// it couldn't leave before, and `reopen` may be called again.
+    /// `StoreFailed`, which is counted, or `Memory`. After either the endpoint isn't usable, a crash leaves nothing
+    /// that it couldn't leave before, and `reopen` may be called again.
     #[tactic(auto, using(crate::proofs::Parts::reopen_told))]
     pub fn reopen(&mut self, alloc: Global) -> Result<(), EndFault>
         ensures reopens { Reopens K.seen self.old self.new (end_of result) }
@@ -147,7 +147,7 @@ where
         Ok(self.keep.reopen(alloc)?)
     }
 
-    /// Takes in a letter: it is handled where it is the next of its pair, held where its number is at most `W.ahead`
+    /// Processes a letter: it is handled where it is the next of its pair, held where its number is at most `W.ahead`
     /// above the last handled, and else known already. A letter that is handled isn't held any more, whatever was held
     /// under its number; of two early letters with one number the first is held.
     ///
@@ -157,8 +157,8 @@ where
     /// In this order: `Unusable`; `NotMine` where the receiver is of another service; `TooEarly` where its number is
     /// more than `W.ahead` above the last handled; `NumberLimit` where it is the next, and its position in the journal
     /// or the number of a letter that it makes the receiver send would be above 2^40. `StoreFailed` and `Memory` may
-    /// come at any call of the store and at any growth. After each of them nothing is changed, but after `StoreFailed`
-    /// the tables, once reopened, may also be those with the letter taken in or held.
+    /// come at any call of the store and at any allocation. After each of them nothing is changed, but after
+    /// `StoreFailed` the tables, once reopened, may also be those with the letter processed or held.
     pub fn ingest(&mut self, alloc: Global, letter: &Letter) -> Result<Ingested, EndFault>
         ensures ingest { DoesDeed K.seen self.old self.new W.ahead H.service OfLetter letter.now.pair.to
             (IngestMayWithin W.ahead H.service letter.now) result }
@@ -170,6 +170,7 @@ where
         if !self.keep.usable() {
             return Err(EndFault::Unusable);
         }
+        // Before any read: another service's letter costs the store nothing.
         if letter.pair.to.kind() != H::kind() {
             return Err(EndFault::NotMine);
         }
@@ -224,7 +225,7 @@ where
         settle::<H, K, W>(alloc, &mut self.keep, pair, number)
     }
 
-    /// The first pair whose next letter, the one behind its handled mark, is held. One read of the store.
+    /// The first pair whose next letter, the one after its handled mark, is held. One read of the store.
     ///
     /// # Errors
     /// As every read: `Unusable`; else `StoreFailed` or `Memory`.

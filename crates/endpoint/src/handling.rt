@@ -1,4 +1,4 @@
-//! How an input is taken in: one transaction for the journal's row, the entity's row and what the entity sends.
+//! How an input is processed: one transaction for the journal's row, the entity's row and what the entity sends.
 
 ghost use Rattle.std.specs.Prelude.{◌≡◌, ◌+◌, ◌<◌, ◌++◌, [], ◌∷◌, true, length, OnOk};
 ghost use Rattle.activities.specs.Rows.{row_for, state_for};
@@ -34,7 +34,7 @@ where
     }
 }
 
-/// One transaction of the store.
+/// Makes these changes, in one transaction of the store.
 #[tactic(auto, using(crate::proofs::Parts::write_told))]
 pub(crate) fn apply_all<H, K>(
     alloc: Global,
@@ -74,6 +74,7 @@ pub fn add_rows<H: Handler>(
         ++ State entity.now (row_for H.service.is_none state) ∷ Journal position
         (record { entity = entity.now; input = input }) ∷ []) }
 {
+    // The state right before its row of the journal: a store that writes states in parts looks for it there.
     let row = row_for::<H>(state);
     changes.push(Change::State(entity.copy(alloc)?, row))?;
     let entity = entity.copy(alloc)?;
@@ -104,10 +105,11 @@ where
         Writes K.seen keep.old keep.new (ArePlaced all) (changed all) (end_of result) }
 {
     add_rows::<H>(alloc, position, entity, input, state, &mut changes)?;
+    // Steps: by this input only a part of the state may differ, and a store may write just that.
     Ok(keep.apply_steps(alloc, changes)?)
 }
 
-/// Takes in an input of an entity of this service, in one transaction with `changes`: those of handled marks and held
+/// Processes an input of an entity of this service, in one transaction with `changes`: those of handled marks and held
 /// letters that go with it. Reads of the store: the entity's row, and the last number sent for each message that is
 /// sent.
 pub(crate) fn handle<H, K, W>(
@@ -127,12 +129,13 @@ where
     ensures { Handles K.seen keep.old keep.new W.ahead H.service (record { entity = entity.now; input = input })
         changes.items result }
 {
+    // Before the reaction, as `commit` promises: a full journal is reported and not the refusal.
     let Some(position) = Number::new(keep.length().saturating_add(1)) else {
         return Err(EndFault::NumberLimit);
     };
     let mut state = read_state::<H, K>(alloc, keep, entity)?;
     let mut outs = Outs::new(alloc);
-    // before the numbers of what it sends are read: a refusal costs one read
+    // Before the numbers of what it sends are read: a refusal costs one read.
     H::apply(alloc, &mut state, &input, &mut outs)?;
     number_outs::<H, K>(alloc, keep, entity, outs.as_slice(), &mut changes)?;
     write::<H, K>(alloc, keep, position, entity, input, state, changes)?;

@@ -1,4 +1,4 @@
-//! How letters and settles that arrive are taken in.
+//! How letters and settles that arrive are processed.
 
 ghost use Rattle.std.specs.Prelude.{◌≡◌, ◌<◌, ◌≤◌, true, ⊤, IfOk};
 ghost use Rattle.keep.specs.Law.{Reads};
@@ -88,6 +88,7 @@ where
     ensures { Works K.seen keep.old keep.new W.ahead H.service OfHeldLetter (IsNext letter.now)
         (IngestMayWithin W.ahead H.service letter.now) result }
 {
+    // The handled mark rises in the letter's own transaction: a crash leaves both or neither.
     let changes = resequencer::take_in(alloc, letter)?;
     let from = letter.pair.from.copy(alloc)?;
     let input = Input::FromEntity(from, letter.number, letter.message);
@@ -130,13 +131,13 @@ where
 {
     let _number = letter.number.get(); // the proof needs that it is within the limit
     match read_held(alloc, keep, letter)? {
-        // the first one stays: a letter that comes again says the same, and costs no transaction
+        // The first one stays: a letter that is redelivered says the same, and costs no transaction.
         Some(_) => Ok(Ingested::Held),
         None => write_held::<H, K, W>(alloc, keep, letter),
     }
 }
 
-/// Takes in a letter: it is handled, held, or known already.
+/// Processes a letter: it is handled, held, or known already.
 pub(crate) fn take_letter<H, K, W>(
     alloc: Global,
     keep: &mut K,
@@ -154,6 +155,7 @@ where
     let handled = read_handled(alloc, keep, &letter.pair)?;
     match W::rank_of(handled, letter) {
         Rank::Repeated => Ok(Ingested::Repeated(handled)),
+        // Also where a held row has its number: that goes in the same transaction.
         Rank::Next => handle_letter::<H, K, W>(alloc, keep, letter),
         Rank::Early => hold_letter::<H, K, W>(alloc, keep, letter),
         Rank::TooEarly => Err(EndFault::TooEarly),
@@ -246,9 +248,11 @@ where
         result }
 {
     let mark = read_settled(alloc, keep, pair)?;
+    // The number was sent, so it isn't too large: only 0 fails here, and it settles nothing.
     let Some(raised) = Number::new(number) else {
         return Ok(mark);
     };
+    // A settle that is redelivered or overtaken costs no transaction, and never lowers the mark.
     if number <= mark {
         return Ok(mark);
     }

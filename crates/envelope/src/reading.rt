@@ -69,7 +69,7 @@ fn envelope_in(alloc: Global, frame: &Frame<MAX_BODY>) -> Result<Envelope, Envel
 /// looked at.
 ///
 /// # Errors
-/// `BadEnvelope` where the frame is no MESSAGE, or these are no envelope's; else `Memory` where a growth was refused.
+/// `BadEnvelope` where the frame is no MESSAGE, or these are no envelope's; else `Memory` if an allocation fails.
 pub fn from_message(alloc: Global, frame: &Frame<MAX_BODY>) -> Result<Envelope, EnvelopeFault>
     ensures read { IsAnswer (read_frame frame.now) result }
     ensures exact { IsReading frame.now result }

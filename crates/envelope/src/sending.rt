@@ -60,14 +60,16 @@ fn send(
 /// body. The headers are those that [`to_send`] tells.
 ///
 /// # Errors
-/// `Memory` where a growth was refused.
+/// `Memory` if an allocation fails.
 pub fn letter_to_send(alloc: Global, letter: &Letter) -> Result<Frame<MAX_BODY>, EnvelopeFault>
     ensures frame { IfOk result (λ f. f ≡ send_of (LetterOf letter.now)) }
     ensures carries { IfOk result (λ f. Carries f.headers f.body (LetterOf letter.now)) }
     ensures fault { IsOkUnless result EnvelopeFault.Memory }
 {
+    // Of what is borrowed: an `Envelope` that is made only to be sent would copy two entities.
     let pair = &letter.pair;
     let body = letter.message.body(alloc)?;
+    // To the receiver's service: all its entities share one queue.
     send(alloc, pair.to.kind(), "message", pair, letter.number, &body)
 }
 
@@ -75,7 +77,7 @@ pub fn letter_to_send(alloc: Global, letter: &Letter) -> Result<Frame<MAX_BODY>,
 /// headers are those that [`to_send`] tells.
 ///
 /// # Errors
-/// `Memory` where a growth was refused.
+/// `Memory` if an allocation fails.
 pub fn settle_to_send(
     alloc: Global,
     pair: &Pair,
@@ -85,6 +87,7 @@ pub fn settle_to_send(
     ensures carries { IfOk result (λ f. Carries f.headers f.body (SettleOf pair.now number)) }
     ensures fault { IsOkUnless result EnvelopeFault.Memory }
 {
+    // To the letter's sender: the settle goes the other way, but it names the pair as the letter did.
     send(alloc, pair.from.kind(), "settle", pair, number, "")
 }
 
@@ -96,7 +99,7 @@ pub fn settle_to_send(
 /// of the service that sends the letters, with an empty body.
 ///
 /// # Errors
-/// `BadEnvelope` for a settle whose number isn't 1 to 2^40; else `Memory` where a growth was refused.
+/// `BadEnvelope` for a settle whose number isn't 1 to 2^40; else `Memory` if an allocation fails.
 pub fn to_send(alloc: Global, envelope: &Envelope) -> Result<Frame<MAX_BODY>, EnvelopeFault>
     ensures frame { IfOk result (λ f. f ≡ send_of envelope.now) }
     ensures carries { IfOk result (λ f. Carries f.headers f.body envelope.now) }

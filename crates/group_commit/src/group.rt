@@ -17,7 +17,7 @@ use envelope::Envelope;
 use keep::{Change, Keep, KeepFault};
 use std::alloc::{AllocError, Global};
 
-/// The changes of the envelopes that are taken in so far, and what is told of each.
+/// The changes of the envelopes that are processed so far, and what is told of each.
 #[derive(Drop)]
 pub(crate) struct Group<S, C> {
     changes: Vec<Change<S, C>>,
@@ -25,7 +25,7 @@ pub(crate) struct Group<S, C> {
 }
 
 impl<S: Drop, C: Drop> Group<S, C> {
-    /// Nothing is taken in yet.
+    /// Nothing is processed yet.
     fn new(alloc: Global) -> Group<S, C>
         ensures { (result.changes.items ≡ []) × (result.told.items ≡ []) }
     {
@@ -35,10 +35,10 @@ impl<S: Drop, C: Drop> Group<S, C> {
         }
     }
 
-    /// Adds a step behind the others.
+    /// Adds a step after the others.
     ///
     /// # Errors
-    /// Where a growth was refused; the group is of no more use then.
+    /// If an allocation fails; the group is of no more use then.
     fn add(&mut self, step: PlannedStep<S, C>) -> Result<(), AllocError>
         ensures { OnOk result ((self.new.changes.items ≡ self.old.changes.items ++ step.changes.items)
             × (self.new.told.items ≡ self.old.told.items ++ step.told ∷ [])) }
@@ -50,7 +50,7 @@ impl<S: Drop, C: Drop> Group<S, C> {
     }
 }
 
-/// How many rows the journal has behind a step, where it had so many before.
+/// How many rows the journal has after a step, where it had so many before.
 fn rows_behind(rows: u64, told: Grouped) -> u64
     ensures { result ≡ rows_behind rows told }
 {
@@ -60,18 +60,19 @@ fn rows_behind(rows: u64, told: Grouped) -> u64
     }
 }
 
-/// What a fault of planning makes of a group: for want of memory it's what was gathered so far.
+/// What a fault of planning makes of a group: out of memory it's what was gathered so far.
 fn ended<S: Drop, C: Drop>(group: Group<S, C>, fault: KeepFault) -> Result<Group<S, C>, KeepFault>
     ensures { result ≡ ended group fault }
 {
     match fault {
+        // A shorter group is as good: the envelopes that are left go into the next one.
         KeepFault::Memory => Ok(group),
         KeepFault::Failed => Err(KeepFault::Failed),
         KeepFault::WrongFile => Err(KeepFault::WrongFile),
     }
 }
 
-/// What taking in the first of these envelopes changes, up to the first that can't be taken in with those before it.
+/// What taking in the first of these envelopes changes, up to the first that can't be processed with those before it.
 fn gather<H, K>(
     alloc: Global,
     keep: &mut K,
@@ -96,6 +97,7 @@ where
         rows = rows_behind(rows, step.told);
         match group.add(step) {
             Ok(()) => (),
+            // Changes may have got in without their answer, so this group must not be written.
             Err(_) => return Err(KeepFault::Memory),
         }
     }
@@ -124,7 +126,7 @@ where
     }
 }
 
-/// Takes in the first of these envelopes, as many as can be taken in together, over a store that may be used.
+/// Processes the first of these envelopes, as many as can be processed together, over a store that may be used.
 fn take<H, K>(alloc: Global, keep: &mut K, envelopes: &[Envelope]) -> Result<Vec<Grouped>, EndFault>
 where
     H: Handler,
@@ -139,14 +141,14 @@ where
     }
 }
 
-/// What a group is taken in with.
+/// What a group is processed with.
 #[derive(Clone, Copy)]
 struct Given<'a> {
     alloc: Global,
     envelopes: &'a [Envelope],
 }
 
-/// The same, of an endpoint that comes back.
+/// Processes the first of these envelopes over an endpoint's store: the endpoint and the answer.
 fn taken<H, K>(
     endpoint: Endpoint<H, K>,
     given: Given<'_>,
@@ -158,23 +160,24 @@ where
     ensures groups { Groups K.seen endpoint result.0 H.service given.entry.envelopes.now result.1 }
     ensures matches { StillMatches K.seen endpoint result.0 H.service }
 {
+    // An endpoint doesn't lend its store: it's taken apart, and made again of the same store.
     let mut keep = endpoint.into_keep();
     let told = take::<H, K>(given.alloc, &mut keep, given.envelopes);
     (Endpoint::new(keep), told)
 }
 
-/// Takes in the first of these envelopes, as many as can be taken in together, by one transaction of the store, and tells
-/// of each what the endpoint answers to one that comes alone. It stops at the first that it can't take in so: a letter
-/// that isn't the next of its pair, a settle by which no mark rises, one that is refused, one of another service, and
-/// one whose own entity, the letter's receiver or the settle's sender, has another before it. Where it tells of none the
-/// transaction changes nothing.
+/// Processes the first of these envelopes, as many as can be processed together, by one transaction of the store, and
+/// tells of each what the endpoint answers to one that comes alone. It stops at the first that it can't process so: a
+/// letter that isn't the next of its pair, a settle by which no mark rises, one that is refused, one of another service,
+/// and one whose own entity, the letter's receiver or the settle's sender, has another before it. Where it tells of none
+/// the transaction changes nothing.
 ///
 /// Calls of the store: for a letter `handled`, `entity`, and one `sent` for each message that it makes its receiver
 /// send; for a settle `sent` and `settled`; and one `apply_steps`.
 ///
 /// # Errors
 /// In this order: `Unusable`; `StoreFailed` and `Memory` as in `Endpoint::ingest`. After each of them nothing is changed,
-/// but after `StoreFailed` the tables, once reopened, may also be those with a first part of these envelopes taken in.
+/// but after `StoreFailed` the tables, once reopened, may also be those with a first part of these envelopes processed.
 pub fn take_group<H, K>(
     alloc: Global,
     endpoint: &mut Endpoint<H, K>,
@@ -186,6 +189,7 @@ where
     ensures groups { Groups K.seen endpoint.old endpoint.new H.service envelopes.now result }
     ensures matches { StillMatches K.seen endpoint.old endpoint.new H.service }
 {
+    // First: the store isn't asked for anything after a failure.
     if !endpoint.usable() {
         return Err(EndFault::Unusable);
     }

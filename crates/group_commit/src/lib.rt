@@ -1,10 +1,11 @@
 //! Several letters and settles in one transaction of the store, with one sync of its disk.
 //!
-//! [`take_group`] takes in the first so many of those that have come as if they came one after another, and tells of each
-//! what the endpoint tells of one that comes alone. All is written at once: behind an error nothing is changed, but where
-//! the store failed, its tables, once reopened, may also have a first part of them taken in. A group ends before the first
-//! that can't be taken in so: a second one of the same entity, a letter that isn't the next of its pair, a settle by which
-//! no mark rises, and whatever is refused. That one is the first of the next group, or goes to the endpoint alone.
+//! [`take_group`] processes the first so many of those that have come as if they came one after another, and tells of each
+//! what the endpoint tells of one that comes alone. All is written at once: after an error nothing is changed, but where
+//! the store failed, its tables, once reopened, may also have a first part of them processed. A group ends before the
+//! first that can't be processed so: a second one of the same entity, a letter that isn't the next of its pair, a settle
+//! by which no mark rises, and whatever is refused. That one is the first of the next group, or goes to the endpoint
+//! alone.
 //!
 //! ```rust
 //! pub fn two_letters_are_taken_in_together(
@@ -19,7 +20,7 @@
 //! ```
 //!
 //! Over empty tables, with an order's first letters to two stocks, the answer is `Handled(1)` and `Handled(2)`; with its
-//! first two letters to one stock it's `Handled(1)`. How many are taken in isn't promised: for want of memory it may be
+//! first two letters to one stock it's `Handled(1)`. How many are processed isn't promised: out of memory it may be
 //! fewer than could be.
 #![tactic(auto)]
 

@@ -32,6 +32,7 @@ fn touches<S, C>(change: &Change<S, C>, entity: &Entity) -> bool
     ensures { result ≡ touches entity.now change.now }
 {
     match change {
+        // Where the next row goes is counted by `rows`, so the store isn't asked for it.
         Change::Journal(_, _) => false,
         Change::State(other, _) => other == entity,
         Change::Sent(letter) => letter.pair.from == *entity,
@@ -120,6 +121,7 @@ where
     match H::apply(alloc, &mut state, &input, &mut outs) {
         Ok(()) => (),
         Err(HandlerFault::Memory) => return Err(KeepFault::Memory),
+        // It ends the group. Given to the endpoint by itself it is refused with its reason.
         Err(HandlerFault::Business(_)) => return Ok(None),
     }
     let Ok(mut changes) = take_in(alloc, letter) else {
@@ -214,6 +216,7 @@ where
 {
     match keep.settled(alloc, pair) {
         Ok(mark) => {
+            // No mark rises: by itself it's answered without a transaction.
             if number <= mark {
                 return Ok(None);
             }
@@ -273,7 +276,7 @@ fn own_of(envelope: &Envelope) -> &Entity
     }
 }
 
-/// The step of an envelope, where it can be taken in behind these changes, none of which concerns its own entity: a
+/// The step of an envelope, where it can be processed after these changes, none of which concerns its own entity: a
 /// letter that is the next of its pair, or a settle by which a mark rises. `rows` is how long the journal is with them.
 pub(crate) fn plan<H, K>(
     alloc: Global,
@@ -289,9 +292,11 @@ where
     ensures { Reads K.seen keep.old keep.new (IsStep H.service H.State.follows before.now rows envelope.now) (keep_end result) }
 {
     let own = own_of(envelope);
+    // By itself it is refused as `NotMine`.
     if own.kind() != H::kind() {
         return Ok(None);
     }
+    // The store's reads don't have the changes before it, which aren't written yet.
     if are_touching(before, own) {
         return Ok(None);
     }

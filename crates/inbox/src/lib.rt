@@ -1,7 +1,7 @@
 //! What a letter that arrives is to its receiver, by numbers alone.
 //!
-//! Letters of a pair are numbered 1, 2, .. by their sender. Of a pair of which `handled` letters were taken in, the
-//! next has the number `handled` + 1; one that isn't above `handled` comes again; one that is above the next came
+//! Letters of a pair are numbered 1, 2, .. by their sender. Of a pair of which `handled` letters were processed, the
+//! next has the number `handled` + 1; one that isn't above `handled` is redelivered; one that is above the next came
 //! early, and is near enough to be held where it isn't more than `AHEAD` above `handled`.
 //!
 //! ```rust

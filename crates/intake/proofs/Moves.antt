@@ -29,6 +29,7 @@ pick_here s n a b e = grind (arith, nat_tests)
 pick_else : (s n a b : ℕ) → s ≢ n → (if s == n then a else b) ≡ b
 pick_else s n a b e = grind (arith, nat_tests)
 
+-- 1 isn't 0
 pub one_apart : (n m : ℕ) → n ≡ 1 → m ≡ 0 → n ≢ m
 one_apart n m a b e = absurd (omega arith)
 

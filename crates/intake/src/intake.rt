@@ -18,25 +18,28 @@ use std::sync::Wait;
 /// Where the readers and the worker of an intake come from.
 pub struct Intake;
 
-/// One that puts arrivals.
+/// A reader of an intake: it puts arrivals.
 #[derive(Drop)]
 pub struct IntakeReader<M: Drop> {
     number: u8,
     to: RuledSender<Slip<M>, Known<M>, Order<M>>,
     key: Pass<Slip<M>, Known<M>>,
     ghost in_range: { number < 2 },
+    // The pass is that of this intake's reader of this number.
     ghost mine: { IsReaderPass (sends_on to) number key },
 }
 
-/// The one that takes them. It has a sending end, since only such an end takes passes in.
+/// The worker of an intake: it takes arrivals. It has a sending end, since only such an end takes passes in.
 #[derive(Drop)]
 pub struct IntakeWorker<M: Drop> {
     to: RuledSender<Slip<M>, Known<M>, Order<M>>,
     from: RuledReceiver<Slip<M>, Known<M>, Order<M>>,
     key: Pass<Slip<M>, Known<M>>,
     counts: Taken,
+    // Both ends are of one channel.
     ghost one: { receives_on from ≡ sends_on to },
     ghost mine: { IsWorkerPass (sends_on to) key },
+    // The counts are of what the pass has seen taken.
     ghost counted: { IsCountOf (view key).got counts },
 }
 
@@ -46,7 +49,7 @@ impl Intake {
     /// Opens an intake with room for `INTAKE_CAPACITY` arrivals: its readers 0 and 1, and its worker.
     ///
     /// # Errors
-    /// `AllocError`: a growth was refused.
+    /// `AllocError`: an allocation failed.
     pub fn open<M: Drop>(
         alloc: Global,
     ) -> Result<(IntakeReader<M>, IntakeReader<M>, IntakeWorker<M>), AllocError>
@@ -87,7 +90,7 @@ impl Intake {
 impl<M: Drop> IntakeReader<M> {
     ghost use Rattle.intake.specs.Ends.{IsSameReader, put_by};
 
-    /// Puts an arrival behind all that were put; it doesn't wait for room.
+    /// Puts an arrival after all that were put; it doesn't wait for room.
     ///
     /// # Errors
     /// The arrival comes back: the intake is full, or its worker is gone.
@@ -100,6 +103,7 @@ impl<M: Drop> IntakeReader<M> {
             reader: self.number,
             arrival,
         };
+        // Without waiting: a reader that finds no room stops reading, so its socket holds the broker back.
         match self.to.try_send_as::<Puts<M>, R>(rt, &mut self.key, slip) {
             Ok(()) => Ok(()),
             Err(error) => {
@@ -119,6 +123,7 @@ impl<M: Drop> IntakeWorker<M> {
         ensures taken { MatchOption result (taken_by self.new ≡ taken_by self.old)
             (λ slip. taken_by self.new ≡ taken_by self.old ++ slip ∷ []) }
     {
+        // So that a count never stays while an arrival is taken; nobody puts 2^64 of them.
         if self.counts.zero == u64::MAX || self.counts.one == u64::MAX {
             return None;
         }
@@ -157,6 +162,7 @@ impl<M: Drop> IntakeWorker<M> {
         } = self;
         to.absorb::<Readers<M>>(&mut key, first);
         to.absorb::<Readers<M>>(&mut key, second);
+        // For contracts alone: what was taken is compared with what was put.
         to.learn_as::<Compares<M>>(&mut key);
         counts
     }

@@ -1,4 +1,4 @@
-//! What stands in the intake.
+//! What is in the intake.
 
 ghost use Rattle.std.specs.Prelude.{◌<◌};
 

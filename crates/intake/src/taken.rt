@@ -11,7 +11,7 @@ pub struct Taken {
 }
 
 impl Taken {
-    /// One more of a reader.
+    /// The counts with one more arrival of a reader.
     pub(crate) fn with(self, reader: u8) -> Taken
         requires room { (self.zero < 2 ^ 64 - 1) × (self.one < 2 ^ 64 - 1) }
         ensures { HasOneMore reader self result }

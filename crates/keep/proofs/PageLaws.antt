@@ -14,6 +14,7 @@ use Rattle.keep.proofs.Listings.{later_than, never_none, letter}
 suc-add : (n b : ℕ) → suc n + b ≡ suc (n + b)
 suc-add n b = omega arith
 
+-- a full page and the page after it are one page
 pub pages_join : PagesJoin
 pages_join messages after zero second [] ys first full behind =
     subst (λ (n : ℕ). AreFirst messages after n ys) (sym (zero-add second)) behind
@@ -23,12 +24,14 @@ pages_join messages after (suc n) second (l ∷ ls) ys first full behind =
     subst (λ (k : ℕ). AreFirst messages after k (l ∷ (ls ++ ys))) (sym (suc-add n second))
     (first.0, pages_join messages (Some (place_of l)) n second ls ys first.1 (omega (arith, full)) behind)
 
+-- after a page that is shorter than its limit there is no letter
 pub short_page_is_last : ShortPageIsLast
 short_page_is_last messages after zero xs are short = absurd (omega (arith, short))
 short_page_is_last messages after (suc n) [] are short = are
 short_page_is_last messages after (suc n) (l ∷ ls) are short =
     short_page_is_last messages (Some (place_of l)) n ls are.1 (omega (arith, short))
 
+-- each letter of a page is in the outbox, after the page's place
 pub listed_letters_stand : ListedLettersStand
 listed_letters_stand messages after zero [] are l h = absurd h
 listed_letters_stand messages after zero (k ∷ ks) are l h = absurd are
@@ -53,6 +56,7 @@ first_or_behind messages after k x m next late stands Equal e =
     inl (ap (λ (y : LetterPlace). letter y.pair y.number m) same ∙ ap (λ (n : Message). letter k.pair k.number n) message)
 first_or_behind messages after k x m next late stands Greater e = inr (place_cmp-Greater x (place_of k) e)
 
+-- a page that is shorter than its limit has each letter after its place
 pub standing_letters_are_listed : StandingLettersAreListed
 standing_letters_are_listed messages after zero xs are short x m late stands = absurd (omega (arith, short))
 standing_letters_are_listed messages after (suc n) [] are short x m late stands =

@@ -12,16 +12,16 @@ use std::marker::Model;
 /// Which tables a failed transaction leaves.
 #[derive(Clone, Copy, Debug, PartialEq, Eq)]
 pub enum Leaves {
-    /// Those before it.
+    /// The tables before the transaction.
     Old,
-    /// Those with its changes; where the store inside couldn't make them, what that left.
+    /// The tables with the transaction's changes; where the store inside couldn't make them, what that left.
     New,
 }
 
 /// Which call from now on fails: 1 is the next.
 #[derive(Clone, Copy, Debug, PartialEq, Eq)]
 pub struct Arming {
-    /// Its place among the calls from now on; 0 is read as 1.
+    /// The place of the call among those from now on; 0 is read as 1.
     pub calls: u64,
     /// What it leaves, where it is a transaction.
     pub leaves: Leaves,
@@ -50,7 +50,7 @@ impl<K: Keep + Drop> Faulty<K> {
     ghost use Rattle.keep.specs.Law.{MoreFailures};
     ghost use Rattle.keep.specs.declared.fault.KeepFault.TheVariants.{Failed};
 
-    /// This keep, with no call armed.
+    /// A store over this one, with no call armed.
     pub fn new(keep: K) -> Self
         ensures { result ≡ record { keep = keep; armed = None; is_down = false; failures = 0 } }
     {
@@ -81,6 +81,7 @@ impl<K: Keep + Drop> Faulty<K> {
         ensures due { result ≡ due self.old.armed }
         ensures armed { self.new ≡ record self.old { armed = counted_down self.old.armed } }
     {
+        // Taken out, so that one call fails and not each from then on.
         let arming = self.armed.take()?;
         if arming.calls <= 1 {
             return Some(arming.leaves);
@@ -121,6 +122,7 @@ impl<K: Keep + Drop> Keep for Faulty<K> {
     ghost seen = { through K.seen };
 
     fn usable(&self) -> bool {
+        // Down by a failure that was armed, or by one of the store inside.
         !self.is_down && self.keep.usable()
     }
 
@@ -129,6 +131,7 @@ impl<K: Keep + Drop> Keep for Faulty<K> {
         requires { (through K.seen self.old).usable ≡ true }
         ensures { ReadsDue K.seen self.old self.new (λ t row. row ≡ t.entity entity.now) result }
     {
+        // Every read and every transaction counts, so that a test can have each of them fail.
         match self.strike() {
             None => self.keep.entity(alloc, entity),
             Some(_) => self.fail(),
@@ -230,6 +233,7 @@ impl<K: Keep + Drop> Keep for Faulty<K> {
     }
 
     fn length(&self) -> u64 {
+        // Not counted: a store knows its length, and reads nothing.
         self.keep.length()
     }
 
@@ -246,6 +250,7 @@ impl<K: Keep + Drop> Keep for Faulty<K> {
             None => self.keep.apply(alloc, changes),
             Some(Leaves::Old) => self.fail(),
             Some(Leaves::New) => {
+                // Made, and reported as failed: as where a disk fails after the commit was written.
                 let _ = self.keep.apply(alloc, changes);
                 self.fail()
             }
@@ -277,6 +282,7 @@ impl<K: Keep + Drop> Keep for Faulty<K> {
     fn reopen(&mut self, alloc: Global) -> Result<(), KeepFault>
         ensures { ReopensThrough K.seen self.old self.new result }
     {
+        // Where the store inside can't be reopened it isn't usable itself, so that this needn't be known here.
         self.is_down = false;
         self.keep.reopen(alloc)
     }

@@ -25,7 +25,7 @@ pub trait Keep {
     /// What seats ask for.
     type Command: Drop;
 
-    /// What callers see of it: the tables now and those that a stop may leave, its failures, its use and its doubt.
+    /// What callers see of it: the tables now and those that a crash may leave, its failures, its use and its doubt.
     ghost seen: { Self → Seen (Tables Self.State Self.Command) };
 
     /// Whether reads and transactions may be called. Else only `reopen` may.
@@ -35,8 +35,8 @@ pub trait Keep {
     /// An entity's row, where it has one.
     ///
     /// # Errors
-    /// As every read: `Failed` where the store failed, which is counted, and then a stop leaves the tables as they
-    /// were; `Memory` where a growth was refused.
+    /// As every read: `Failed` where the store failed, which is counted, and then a crash leaves the tables as they
+    /// were; `Memory` if an allocation fails.
     fn entity(&mut self, alloc: Global, entity: &Entity) -> Result<Option<Self::State>, KeepFault>
         requires { (seen self.old).usable ≡ true }
         ensures { Reads seen self.old self.new (λ t row. row ≡ t.entity entity.now) (keep_end result) };
@@ -101,11 +101,11 @@ pub trait Keep {
         ensures { (seen self.now).doubt ≡ 0 → result ≡ length (seen self.now).tables.journal };
 
     /// Makes all of these changes in order, in one transaction. What it does is told where each row of the journal has
-    /// the position behind the last.
+    /// the position after the last.
     ///
     /// # Errors
-    /// `Failed` where the store failed, which is counted: a stop leaves the tables as they were, or those with all
-    /// changes. `Memory` where a growth was refused: the tables are as they were.
+    /// `Failed` where the store failed, which is counted: a crash leaves the tables as they were, or those with all
+    /// changes. `Memory` if an allocation fails: the tables are as they were.
     fn apply(
         &mut self,
         alloc: Global,
@@ -114,7 +114,7 @@ pub trait Keep {
         requires { (seen self.old).usable ≡ true }
         ensures { Writes seen self.old self.new (ArePlaced changes.items) (changed changes.items) (keep_end result) };
 
-    /// As [`apply`](Keep::apply), for changes of which each state that stands before a row of the journal follows the one
+    /// As [`apply`](Keep::apply), for changes of which each state that is before a row of the journal follows the one
     /// that it replaces, by that row's input: no more of it need be written than what such an input changes. A store that
     /// writes states whole does just what `apply` does.
     ///
@@ -129,15 +129,15 @@ pub trait Keep {
         requires steps { (seen self.old).doubt ≡ 0 → AreSteps Self.State.follows changes.items (seen self.old).tables }
         ensures { Writes seen self.old self.new (ArePlaced changes.items) (changed changes.items) (keep_end result) };
 
-    /// Opens the store again: the tables now are some that a stop may leave. A usable keep may be reopened too, and has
+    /// Reopens the store: the tables now are some that a crash may leave. A usable keep may be reopened too, and has
     /// its tables then.
     ///
     /// # Errors
-    /// `Failed` where the store failed, which is counted, and `Memory` where a growth was refused. After either the
-    /// keep isn't usable, a stop leaves nothing that it couldn't leave before, and `reopen` may be called again.
+    /// `Failed` where the store failed, which is counted, and `Memory` if an allocation fails. After either the keep
+    /// isn't usable, a crash leaves nothing that it couldn't leave before, and `reopen` may be called again.
     fn reopen(&mut self, alloc: Global) -> Result<(), KeepFault>
         ensures { Reopens seen self.old self.new (keep_end result) };
 
-    /// While no file is in doubt a stop leaves some tables, and of a usable keep the tables now and no others.
+    /// While no file is in doubt a crash leaves some tables, and of a usable keep the tables now and no others.
     ghost sound: { (k : Self) → IsSound (seen k) };
 }

@@ -191,11 +191,13 @@ module _ {T K : Type 0} (seen : K → Seen T) (k k' : K) where
 
 -- ---- reopenings
 
+-- doubt over two files is 0 or 1
 pub small_doubt : (b : Bool) → doubt b ≤ 1
 unfolding doubt
 small_doubt true = omega arith
 small_doubt false = omega arith
 
+-- two facts of a good result give a third
 pub on_ok : {R F A B C : Type 0} (result : Result R F) → OnOk result A → OnOk result B → (A → B → C) → OnOk result C
 on_ok (Ok r) a b so = so a b
 on_ok (Err e) a b so = tt

@@ -1,4 +1,4 @@
-//! A service's tables in two files, which are opened again behind a failure.
+//! A service's tables in two files, which are reopened after a failure.
 
 ghost use Rattle.std.specs.Prelude.{◌≡◌, ◌≤◌, true, false, is_ok, IfOk, OnOk, OnErr, None};
 ghost use Rattle.sqlite_trees.specs.Tree.{Trees};
@@ -24,7 +24,7 @@ use sqlite::{FileFrom, FileStore, Options, Start};
 use std::alloc::Global;
 use std::hash::{BuildHasher, RandomState};
 
-/// What a store has of its files: they are open, or, behind a failure, closed.
+/// What a store has of its files: they are open, or, after a failure, closed.
 #[derive(Drop)]
 enum Access<K, F> {
     Open(K),
@@ -49,6 +49,7 @@ pub struct FileKeep<H: Filed, S: Reopenable + Drop> {
 fn close<H: Filed, S: Reopenable + Drop>(keep: SqliteKeep<H, S>) {
     if keep.usable() {
         let (conn, _failures) = keep.into_conn();
+        // A backup of the database file alone would lose what is in the log.
         conn.into_store().copy_and_close();
     }
 }
@@ -71,11 +72,11 @@ impl<H: Filed, S: Reopenable + Drop> Drop for FileKeep<H, S> {
 }
 
 impl<H: Filed, S: Reopenable + Drop> FileKeep<H, S> {
-    /// Takes over closed files: the tables of the service that stand there, or, where there are no tables, new ones.
+    /// Takes over closed files: the tables of the service that are there, or, where there are no tables, new ones.
     ///
     /// # Errors
     /// As [`SqliteKeep::adopt`], and where the files can't be opened: `WrongFile` where they are no database, `Memory`
-    /// where a growth was refused, and `Failed` else.
+    /// if an allocation fails, and `Failed` else.
     pub fn adopt(alloc: Global, files: S::Files, options: Options) -> Result<Self, KeepFault>
         ensures usable { IfOk result (λ f. (⟦<FileKeep<H, S> as Keep>⟧.seen f).usable ≡ true) }
         ensures failures { IfOk result (λ f. (⟦<FileKeep<H, S> as Keep>⟧.seen f).failures ≡ 0) }
@@ -98,7 +99,7 @@ impl<H: Filed, S: Reopenable + Drop> FileKeep<H, S> {
         }
     }
 
-    /// Closes the files. They hold tables that a stop may have left.
+    /// Closes the files. They hold tables that a crash may have left.
     pub fn into_files(self) -> S::Files
         ensures { S.Reopenable.doubt_of result ≡ 0 → (⟦<FileKeep<H, S> as Keep>⟧.seen self).doubt ≡ 0
             → ∥ ((db : Trees) × S.Reopenable.holds result db
@@ -119,7 +120,7 @@ impl<H: Filed, S: Reopenable + Drop> FileKeep<H, S> {
         }
     }
 
-    /// The files of a store that couldn't be opened again. A failure is counted, unless memory was refused.
+    /// The files of a store that couldn't be reopened. A failure is counted, unless an allocation failed.
     fn closed(
         files: S::Files,
         options: Options,
@@ -138,6 +139,7 @@ impl<H: Filed, S: Reopenable + Drop> FileKeep<H, S> {
             access: Access::Closed(files),
             failures: counted,
             options,
+            // For good: the kit doesn't say whether files that couldn't be opened were in doubt.
             is_told: false,
         };
         (keep, Err(fault))
@@ -171,6 +173,7 @@ impl<H: Filed, S: Reopenable + Drop> FileKeep<H, S> {
         match SqliteKeep::resume(alloc, conn) {
             Ok(keep) => {
                 let keep = FileKeep {
+                    // Failures are counted over reopenings.
                     access: Access::Open(keep.with_failures(failures)),
                     failures,
                     options,
@@ -197,9 +200,11 @@ impl<H: Filed, S: Reopenable + Drop> FileKeep<H, S> {
         match access {
             Access::Open(keep) => {
                 let (conn, counted) = keep.into_conn();
+                // Without copying the log: a disk that failed may fail again.
                 let files = conn.into_store().into_files();
                 FileKeep::opened(alloc, files, options, counted, is_told)
             }
+            // Files are closed only since a reopening failed.
             Access::Closed(files) => FileKeep::opened(alloc, files, options, failures, false),
         }
     }
@@ -249,6 +254,7 @@ impl<H: Filed, S: Reopenable + Drop> Keep for FileKeep<H, S> {
     fn usable(&self) -> bool {
         match &self.access {
             Access::Open(keep) => keep.usable(),
+            // Only `reopen` may be called.
             Access::Closed(_) => false,
         }
     }
@@ -363,7 +369,7 @@ impl<H: Filed, S: Reopenable + Drop> Keep for FileKeep<H, S> {
             f.is_told f.failures f.access) self.old self.new (ArePlaced changes.items) (changed changes.items)
             (keep_end result) }
     {
-        // Where a reopening has failed nobody knows what stands there, so no part of it is left as it was.
+        // Where a reopening has failed nobody knows what is there, so no part of it is left as it was.
         if !self.is_told {
             return self.apply(alloc, changes);
         }

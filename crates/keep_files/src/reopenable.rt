@@ -1,4 +1,4 @@
-//! Stores whose files are closed and opened again.
+//! Stores whose files are closed and reopened.
 
 ghost use Rattle.std.specs.Prelude.{◌≡◌, ◌≤◌, ℕ, IfOk, IsTrue};
 ghost use Rattle.sqlite_trees.specs.Tree.{Trees};
@@ -63,6 +63,7 @@ impl<D: Disk + Drop> Reopenable for FileStore<D> {
         files: Files<D>,
         options: Options,
     ) -> Result<Connection<FileStore<D>>, (Error, Files<D>)> {
+        // After a sync that failed a read may show what the disk never got.
         if !files.may_be_used() {
             return Err((Error::SqliteFailure(ErrorCode::SystemIoFailure), files));
         }

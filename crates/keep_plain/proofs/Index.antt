@@ -35,6 +35,7 @@ first_drains handled held drainable i None h = λ q. none_is _ (sym (i q) ∙ ap
 first_drains handled held drainable i (Some p) h =
     (sym (i p) ∙ h.0, λ q less. none_is _ (sym (i q) ∙ ap is_some (h.1 q less)))
 
+-- the first filled slot of the index is the first pair whose next letter is held
 pub result_drains : (handled : BTreeMap Pair (Option ℕ)) (held : BTreeMap LetterPlace (Option Message))
     (drainable : Drainable)
     → IsIndexed handled held drainable → (r : Result (Option Pair) AllocError)
@@ -64,6 +65,7 @@ module _ {V : Type 0} (p q : Pair) (v : Option V) (old new : BTreeMap Pair (Opti
 abbrev here : Unit {0}
 here = tt
 
+-- `then_some` gives a value just where its condition is true
 pub some_where : (b : Bool) → is_some (then_some b here) ≡ b
 some_where true = refl
 some_where false = refl

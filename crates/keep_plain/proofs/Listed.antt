@@ -133,13 +133,16 @@ letters_listed m o after limit r e =
 
 -- ---- a page, letter by letter
 
+-- at the limit the letters found are the page
 pub page_full : (xs rest ys : List Letter) (n : ℕ) → n ≡ 0 → xs ++ take n rest ≡ ys → xs ≡ ys
 page_full xs rest ys n none e = sym (append-nil xs) ∙ subst (λ k. xs ++ take k rest ≡ ys) none e
 
+-- at the end of the outbox the letters found are the page
 pub page_over : (xs rest ys : List Letter) (n : ℕ) → rest ≡ [] → xs ++ take n rest ≡ ys → xs ≡ ys
 page_over xs rest ys n none e =
     sym (append-nil xs) ∙ ap (λ l. xs ++ l) (sym (take-nil n)) ∙ subst (λ r. xs ++ take n r ≡ ys) none e
 
+-- one letter more found is one less to find
 pub page_more : (xs more rest left ys : List Letter) (l : Letter) (n k : ℕ) → more ≡ xs ++ l ∷ [] → rest ≡ l ∷ left
     → n ≡ suc k
     → xs ++ take n rest ≡ ys → more ++ take k left ≡ ys

@@ -194,12 +194,14 @@ ready_kept old new k (Handled p n) h = (k.arrivals.handled p h.0, k.arrivals.dra
 ready_kept old new k (Held l) h = (k.arrivals.held (place_of l) h.0, k.arrivals.drainable l.pair h.1)
 ready_kept old new k (NotHeld p n) h = tt
 
+-- slots that are made for changes stay while others are made
 pub all_kept : {S C : Type 0} (old new : Maps S C) → KeepsAll old new → (cs : List (Change S C))
     → AllByRecursion (IsReady old) cs
     → AllByRecursion (IsReady new) cs
 all_kept old new k [] h = tt
 all_kept old new k (c ∷ cs) h = (ready_kept old new k c h.0, all_kept old new k cs h.1)
 
+-- with the slots for one change more, all have theirs
 pub all_more : {S C : Type 0} (m : Maps S C) (cs : List (Change S C)) (c : Change S C) → AllByRecursion (IsReady m) cs
     → IsReady m c
     → AllByRecursion (IsReady m) (cs ++ c ∷ [])
@@ -208,6 +210,7 @@ all_more m (d ∷ cs) c h r = (h.0, all_more m cs c h.1 r)
 
 -- ---- one step after another
 
+-- tables that are the same twice are the same
 pub same_after : {S C : Type 0} (a b c : Maps S C) → SameTables a b → SameTables b c → SameTables a c
 same_after a b c h k = record {
   journal = k.journal ∙ h.journal;
@@ -221,6 +224,7 @@ same_after a b c h k = record {
   };
 }
 
+-- room in the journal changes no table
 pub with_room : {S C : Type 0} (m : Maps S C) (journal : Vec (JournalRow C)) → journal.items ≡ m.journal.items
     → tables_in (record m { journal = journal }) ≡ tables_in m
 with_room m journal h = ap (λ x. record (tables_in m) { journal = x }) h

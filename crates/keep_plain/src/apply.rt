@@ -51,6 +51,7 @@ fn send<S: Drop, C: Drop>(maps: &mut Maps<S, C>, letter: Letter)
     ensures keeps { KeepsAll maps.old maps.new }
     ensures journal { maps.new.journal ≡ maps.old.journal }
 {
+    // The letter's own pair becomes the key: a copy would allocate.
     let place = LetterPlace {
         pair: letter.pair,
         number: letter.number,
@@ -67,6 +68,7 @@ fn settle<S: Drop, C: Drop>(maps: &mut Maps<S, C>, pair: Pair, number: Number) -
     ensures keeps { KeepsAll maps.old maps.new }
     ensures journal { maps.new.journal ≡ maps.old.journal }
 {
+    // The pair is moved into the key, and returned for the sweep: a copy would allocate.
     let mut place = LetterPlace { pair, number };
     set_mark(&mut maps.marks, &place.pair, Mark::Settled, number);
     empty_upto(&mut maps.outbox, &mut place);
@@ -114,8 +116,8 @@ fn release<S: Drop, C: Drop>(maps: &mut Maps<S, C>, pair: Pair, number: Number) 
     place.pair
 }
 
-/// Sets an entity's row, in a slot that is there. Where the row is taken away, the entity is given back: its slot is
-/// left empty.
+/// Sets an entity's row, in a slot that is there. Where the row is taken away, the entity is returned: its slot is left
+/// empty.
 fn set_row<S: Drop, C: Drop>(
     maps: &mut Maps<S, C>,
     entity: Entity,
@@ -131,7 +133,7 @@ fn set_row<S: Drop, C: Drop>(
     is_gone.then_some(entity)
 }
 
-/// Makes a change, in slots that are there. What may have left empty slots is given back, for a sweep.
+/// Makes a change, in slots that are there. What may have left empty slots is returned, for a sweep.
 fn make_change<S: Drop, C: Drop>(
     maps: &mut Maps<S, C>,
     change: Change<S, C>,
@@ -166,6 +168,7 @@ fn make_change<S: Drop, C: Drop>(
         }
         Change::Held(letter) => {
             let place = hold(maps, letter);
+            // To be swept it needs its place alone.
             Some(Change::NotHeld(place.pair, place.number))
         }
         Change::NotHeld(pair, number) => {
@@ -222,6 +225,7 @@ fn make_all_slots<S: Drop, C>(
 /// Adds a change, if there is one and memory isn't refused.
 fn note<S: Drop, C: Drop>(emptied: &mut Vec<Change<S, C>>, change: Option<Change<S, C>>) {
     if let Some(change) = change {
+        // There is room: `apply` made it. A slot that isn't swept would hold memory, and be as no row.
         let _ = emptied.push(change);
     }
 }
@@ -264,7 +268,7 @@ fn count_emptying<S, C>(changes: &[Change<S, C>]) -> usize {
         .count()
 }
 
-/// Makes all of these changes in order, or none where memory is refused.
+/// Makes all of these changes in order, or none if an allocation fails.
 pub fn apply<S: Drop, C: Drop>(
     alloc: Global,
     maps: &mut Maps<S, C>,
@@ -273,9 +277,12 @@ pub fn apply<S: Drop, C: Drop>(
     ensures ok { OnOk result (tables_in maps.new ≡ changed changes.items (tables_in maps.old)) }
     ensures err { OnErr result (tables_in maps.new ≡ tables_in maps.old) }
 {
+    // All that allocates comes before a table is changed: no change has to be undone.
     let mut emptied = Vec::with_capacity(alloc, count_emptying(&changes))?;
+    // More than the journal's rows among them, so that they needn't be counted.
     maps.journal.reserve(changes.len())?;
     if let Err(fault) = make_all_slots(alloc, maps, &changes) {
+        // The slots that were made are empty: without them the tables are as they were.
         sweep_all(maps, changes);
         return Err(fault);
     }

@@ -27,6 +27,7 @@ pub struct Arrivals {
     held: BTreeMap<LetterPlace, Option<Message>>,
     /// The pairs whose next message is held: its number is one more than the last handled.
     drainable: BTreeMap<Pair, Option<()>>,
+    // The index is exact: a pair is in it just where its next letter is held.
     ghost indexed: { IsIndexed handled held drainable },
 }
 
@@ -133,6 +134,7 @@ impl Arrivals {
         ensures handled { self.new.handled ≡ self.old.handled }
         ensures keeps { KeepsArrivals self.old self.new }
     {
+        // A pair is drainable by its next letter alone: where another one goes, that stays.
         let was_drainable = self.is_next(place);
         empty_slot(&mut self.held, place);
         if was_drainable {

@@ -29,17 +29,18 @@ pub fn find_message(
     Ok(get_slot(held, &place).copied())
 }
 
-/// Whether a place is behind another: of its pair, and with the next number.
+/// Whether a place is after another: of its pair, and with the next number.
 fn is_behind(place: &LetterPlace, other: &LetterPlace) -> bool
     ensures { result ≡ (same_pair place.now.pair other.now.pair && ((other.now.number + 1) == place.now.number)) }
 {
     place.pair == other.pair && place.number.get() - 1 == other.number.get()
 }
 
-/// Whether the message behind a place is held.
+/// Whether the message after a place is held.
 pub fn has_next(held: &BTreeMap<LetterPlace, Option<Message>>, place: &LetterPlace) -> bool
     ensures { result ≡ is_some (messages_in held.now place.now.pair (place.now.number + 1)) }
 {
+    // By the range after the place: a key for the next number would have to be allocated.
     let Some((found, slot)) = held
         .range((Bound::Excluded(place), Bound::Unbounded))
         .next()
@@ -49,13 +50,14 @@ pub fn has_next(held: &BTreeMap<LetterPlace, Option<Message>>, place: &LetterPla
     is_behind(found, place) && slot.is_some()
 }
 
-/// A copy of the first pair that stands among these.
+/// A copy of the first pair that is among these.
 pub fn first_filled(
     alloc: Global,
     pairs: &BTreeMap<Pair, Option<()>>,
 ) -> Result<Option<Pair>, AllocError>
     ensures { IfOk result (IsFirstFilled pair_cmp (at pair_cmp pairs.now)) }
 {
+    // Mostly the first: each transaction sweeps the slots that it leaves empty.
     for (pair, slot) in pairs {
         if slot.is_some() {
             return Ok(Some(pair.copy(alloc)?));

@@ -31,6 +31,7 @@ pub fn copy_page<H: Handler>(
     ensures { IfOk result (λ rows. rows.items ≡ take limit (drop (from - 1) journal.now)) }
 {
     let start = from.saturating_sub(1);
+    // Compared as u64: a position that is too large may not wrap around as an index.
     if start >= journal.len() as u64 {
         return Ok(Vec::new(alloc));
     }

@@ -16,7 +16,7 @@ use keep::{Change, Keep, KeepFault, LetterPlace};
 use std::alloc::Global;
 use std::collections::BTreeMap;
 
-/// The tables of a handler's service in memory. It never fails, and a stop leaves the tables now.
+/// The tables of a handler's service in memory. It never fails, and a crash leaves the tables now.
 pub struct PlainKeep<H: Handler> {
     maps: Maps<H::State, H::Command>,
 }
@@ -136,6 +136,7 @@ impl<H: Handler> Keep for PlainKeep<H> {
         ensures { Writes (λ k. in_memory k.maps) self.old self.new (ArePlaced changes.items) (changed changes.items)
             (keep_end result) }
     {
+        // In memory a state is one value: there is no part of it that needn't be written.
         self.apply(alloc, changes)
     }
 

@@ -1,5 +1,5 @@
-//! Maps of slots. What stands at a key is what its slot has; an empty slot is as none, so that one can be put where
-//! memory may be refused, and be filled where it may not.
+//! Maps of slots. What is at a key is what its slot has; an empty slot is as none, so that one can be put where memory
+//! may be refused, and be filled where it may not.
 
 ghost use Rattle.std.specs.Prelude.{◌≡◌, IsSome, OnOk};
 ghost use Rattle.std.specs.Option.{option_copied};
@@ -8,7 +8,7 @@ ghost use Rattle.keep_plain.specs.Slots.{at, HasSlot, KeepsSlots, SameAt, SetsAt
 use std::alloc::AllocError;
 use std::collections::BTreeMap;
 
-/// What stands at a key.
+/// What is at a key.
 pub fn get_slot<'a, K: Ord, V>(map: &'a BTreeMap<K, Option<V>>, key: &K) -> Option<&'a V>
     ensures { option_copied result ≡ at K.cmp map.now key.now }
 {
@@ -24,6 +24,7 @@ pub fn make_slot<K: Ord + Drop, V: Drop>(
     ensures keeps { KeepsSlots K.cmp map.old map.new }
     ensures made { OnOk result (HasSlot K.cmp map.new key) }
 {
+    // What is there stays, until the change itself is made.
     map.entry(key)?.or_insert(None);
     Ok(())
 }

@@ -15,6 +15,7 @@ of_kind kind.Account is = refl
 of_kind kind.Order is = absurd cc
 of_kind kind.Stock is = absurd cc
 
+-- accounts are kept as heads and lines, so what the proofs say of all holders is so of them
 pub accounts_held : AreHeld filing account_rows kind.Account account_line_word
 accounts_held = record {
   tells = λ db. refl;

@@ -378,6 +378,7 @@ one_more f c rest all m n old mid new made way = record {
   };
 }
 
+-- two steps that leave nothing new after a crash are one such step
 pub survives_quietly : (a b c : State) → Survives a b (λ _. ⊥) → Survives b c (λ _. ⊥) → Survives a c (λ _. ⊥)
 survives_quietly a b c p q = survives_then a b c _ _ (λ _. ⊥) (λ _ db none. none) (λ _ db none. none) p q
 

@@ -77,6 +77,7 @@ frame schema is apart tree old new low left =
       own = own_left tree old new low (own_tables schema) apart each.1.1.1.1.1;
     }
 
+-- the journal's rows are in order of their positions
 pub journal_rises : (schema : Schema) → IsService schema → (db : Trees) → AreRising schema db → IsRising (db 0)
 journal_rises schema is db rising =
     (subst (AllByRecursion (λ (t : Table). IsRising (db t.tree))) (common_first schema is) rising).0

@@ -279,6 +279,7 @@ one_more_renewed count r s u some one = record {
       ∙ some.rest k (omega (arith, high)) at;
 }
 
+-- to rewrite bodies leaves the positions as they are
 pub still_numbered : (count m : ℕ) (rows after : List Row) → AllZip (IsRenewedUpto count) rows after
     → AreNumbered m rows → AreNumbered m after
 still_numbered count m [] [] renewed h = tt
@@ -292,6 +293,7 @@ pub record IsRenewing (count : ℕ) (old now : State) : Type 0 where
   pub survives : Survives old now (λ _. ⊥)
   pub done : HasCleanDisk now → Edits 0 (AllZip (IsRenewedUpto count)) old now
 
+-- before the first row nothing is rewritten
 pub renewing_starts : (s : State) → (HasCleanDisk s → IsRising (s.now.trees 0)) → (HasCleanDisk s → IsDatabase s.now)
     → (HasCleanDisk s → IsTrue s.is_open) → (HasCleanDisk s → IsTrue s.in_transaction) → IsRenewing 0 s s
 renewing_starts s rising sound live inside = record {
@@ -319,9 +321,11 @@ renewing_starts s rising sound live inside = record {
   };
 }
 
+-- while rows are rewritten the last commit stays as it is
 pub renewing_keeps : (count : ℕ) (old now : State) → IsRenewing count old now → HasCleanDisk now → KeepsCommit old now
 renewing_keeps count old now way clean = edits_keep 0 (AllZip (IsRenewedUpto count)) old now (way.done clean)
 
+-- one row rewritten after the first so many is one more
 pub renewing_more : (count : ℕ) (old mid new : State) → IsRenewing count old mid → Survives mid new (λ _. ⊥)
     → (HasCleanDisk new → Edits 0 (AllZip (IsRenewedAt (count + 1))) mid new) → IsRenewing (count + 1) old new
 renewing_more count old mid new way survives one = record {
@@ -346,6 +350,7 @@ all_renewed count m (r ∷ rows) (s ∷ after) renewed h few = ap₂ (λ x xs. x
     (renewed.0.done m (omega (arith, few)) h.0)
     (all_renewed count (m + 1) rows after renewed.1 h.1 (omega (arith, few)))
 
+-- once as many rows are rewritten as there are, the journal is of today
 pub journal_renewed : (count : ℕ) (old mid new : State) → old.now.schema ≡ purchasing
     → AreRising purchasing old.now.trees → IsDatabase old.now → IsTrue old.in_transaction → IsUnchanged old mid
     → count ≡ length (old.now.trees 0) → AreNumbered 1 (old.now.trees 0)

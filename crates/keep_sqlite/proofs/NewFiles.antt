@@ -103,6 +103,7 @@ module _ {S C X E : Type 0} (f : Filing S C) (service : Service) (is : service
       )
   founded (Err e) founds shown = tt
 
+-- the second of four facts of a good result
 pub shown_of : {X E : Type 0} (A B D F : Type 0) (r : Result X E) → OnOk r (A × B × D × F) → OnOk r B
 shown_of A B D F (Ok x) h = h.1
 shown_of A B D F (Err e) h = tt

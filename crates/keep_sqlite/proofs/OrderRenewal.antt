@@ -244,6 +244,7 @@ pub all_keep : (a b c d e : State) → KeepsCommit a b → KeepsCommit b c → K
 all_keep a b c d e p q r s =
     both_keep orders a d e (both_keep orders a c d (both_keep orders a b c p q) r) s
 
+-- four steps that leave nothing new after a crash are one such step
 pub all_survive : (a b c d e : State) → Survives a b (λ _. ⊥) → Survives b c (λ _. ⊥) → Survives c d (λ _. ⊥)
     → Survives d e (λ _. ⊥) → Survives a e (λ _. ⊥)
 all_survive a b c d e p q r s =

@@ -45,6 +45,7 @@ order_read : (found : Option OrderState) (o : OrderState) → IsOrderRead found 
 order_read None o is = absurd (cc)
 order_read (Some told) o is = ap Some (sym is.0)
 
+-- the columns of a head, read, and the stocks are the order that its rows are
 pub head_told : (a n s p : Value) (account status phase a2 s2 p2 : List ℕ) (amount : ℕ) (stocks : List Partner)
     (found : Option OrderState) (o : OrderState) → a ≡ Text account → n ≡ Int (pos amount) → s ≡ Text status
     → p ≡ Text phase → a2 ≡ account → s2 ≡ status → p2 ≡ phase → found ≡ Some o

@@ -177,6 +177,7 @@ pub record IsAdding (key : List ℕ) (ps : List Partner) (at : ℕ) (old now : S
   pub survives : Survives old now (λ _. ⊥)
   pub done : HasCleanDisk now → Edits 11 (AreAdded (lines_cells key (take at ps))) old now
 
+-- while lines are added the last commit stays as it is
 pub adding_keeps : (key : List ℕ) (ps : List Partner) (at : ℕ) (old now : State) → IsAdding key ps at old now
     → HasCleanDisk now → KeepsCommit old now
 adding_keeps key ps at old now way clean = edits_keep 11 _ old now (way.done clean)
@@ -219,6 +220,7 @@ module _ (key : List ℕ) (stocks : List Partner) (at : ℕ) (stock : Partner) (
 
 -- ---- in a transaction
 
+-- where nothing is done a crash leaves nothing new
 pub survives_itself : (s : State) → Survives s s (λ _. ⊥)
 survives_itself s = record {
   clean = omega arith;
@@ -229,6 +231,7 @@ survives_itself s = record {
   crash = λ clean db may. inl may;
 }
 
+-- before the first line nothing is added
 pub adding_starts : (key : List ℕ) (ps : List Partner) (s : State) → (HasCleanDisk s → IsRising (s.now.trees 11))
     → (HasCleanDisk s → IsDatabase s.now) → (HasCleanDisk s → IsTrue s.is_open)
     → (HasCleanDisk s → IsTrue s.in_transaction) → IsAdding key ps 0 s s
@@ -251,6 +254,7 @@ about_left tree B old new has other h =
     let left = subst (λ s. AllByRecursion (IsLeft tree old.now.trees new.now.trees) s.tables) has h.others in
     left.1.1.1.1.1.1.1.0 other
 
+-- the writes of an order leave the table `about` as it is
 pub about_stays : (A B C : List Row → List Row → Type 0) (old a b new : State) → old.now.schema ≡ purchasing
     → Edits 11 A old a → Edits 9 B a b → Edits 11 C b new → new.now.trees 14 ≡ old.now.trees 14
 about_stays A B C old a b new has lines head more =
@@ -259,6 +263,7 @@ about_stays A B C old a b new has lines head more =
     ∙ about_left 9 B a b second (λ e. omega (arith, e)) head
     ∙ about_left 11 A old a has (λ e. omega (arith, e)) lines
 
+-- an order's key has one head at most
 pub one_head : (count : ℕ) (db : Database) → IsFiled purchasing count db → IsDatabase db → (k : List ℕ)
     → IsOne (has_key (text_key k)) (db.trees 9)
 one_head count db filed was k = one_of_text purchasing db.trees order_heads

@@ -128,6 +128,7 @@ all_placed n (r ∷ rows) ints within =
 exact : (n len : ℕ) → n ≡ min len 9223372036854775807 → n < 9223372036854775807 → len ≡ n
 exact n len is small = let e = is in grind (arith, nat_tests)
 
+-- a journal with as many rows as positions from 1 to their number has just these positions
 pub counted : (rows : List Row) (n m : ℕ) → IsRising rows → n ≡ min (length rows) 9223372036854775807
     → n < 9223372036854775807
     → m ≡ min (length (filter (is_within (pos 1) (pos n)) rows)) 9223372036854775807 → m ≡ n
@@ -141,6 +142,7 @@ counted rows n m rising all small within same =
     let high : n + 1 ≡ 1 + length rows = omega (arith, total) in
     (sym total, numbered_from 1 rows (subst (λ h. AllByRecursion (IsPlaced 1 h) rows) high every) rising.ordered)
 
+-- a number below 2^63 that isn't 2^63 - 1 is below that
 pub not_greatest : (n : ℕ) (z : ℤ) → z ≡ pos n → n < 2 ^ 63 → (z ≡ pos 9223372036854775807 → ⊥)
     → n < 9223372036854775807
 not_greatest n z is small other = elim (cases_Bool (nat_le 9223372036854775807 n)) [

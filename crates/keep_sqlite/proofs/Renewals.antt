@@ -96,6 +96,7 @@ module _ {S C : Type 0} (first : FirstFiling S C) (f : Filing S C) (old begun st
 
 -- ---- a file that is found
 
+-- a file with the first schema whose `about` names version 1 of the service is one of version 1
 pub first_file : {E : Type 0} (service : Service) (old new : State) → Stays old new → IsTrue new.is_open
     → old.now ≡ old.committed → old.now.schema ≡ first_schema_of service
     → AllByRecursion (λ (t : Table). IsRising (old.now.trees t.tree)) old.now.schema.tables
@@ -117,10 +118,12 @@ first_file service old new stays live settled has rising (Ok t) h = λ so.
 
 -- ---- a file that stays
 
+-- tables with today's schema, and an `about` of the service, are a file of today
 pub is_of_today : {S C : Type 0} (f : Filing S C) (count : ℕ) (s : State) → IsReady f.schema count s
     → TellsOfService f s.now.trees → IsOfToday f s.committed
 is_of_today f count s ready tells = subst (IsOfToday f) ready.settled (inl (ready.filed.is, tells))
 
+-- a file without tables is as good as one of today: it gets them when it's opened
 pub is_without_tables : {S C : Type 0} (f : Filing S C) (s : State) → s.now ≡ s.committed → s.now.schema ≡ no_tables
     → IsOfToday f s.committed
 is_without_tables f s settled none = subst (IsOfToday f) settled (inr none)

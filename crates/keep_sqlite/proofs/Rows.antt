@@ -17,6 +17,7 @@ use Rattle.keep_sqlite.specs.Filing.{Filing}
 use Rattle.keep_sqlite.specs.Tables.{message_in, entity_in, number_at, no_input, row_in}
 use Rattle.sql_bodies.specs.Columns.{input_from}
 
+-- a column with a message's body is read as that message
 pub message_read : (m : Message) (b : List ℕ) → IsMessage m → b ≡ body_of m → message_in (Text b) ≡ m
 message_read m b is e = rw (e, read_message-body_of m is) refl
 

@@ -15,6 +15,7 @@ of_kind kind.Stock is = refl
 of_kind kind.Order is = absurd cc
 of_kind kind.Account is = absurd cc
 
+-- stocks are kept as heads and lines, so what the proofs say of all holders is so of them
 pub stocks_held : AreHeld filing stock_rows kind.Stock stock_line_word
 stocks_held = record {
   tells = λ db. refl;

@@ -245,6 +245,7 @@ fn set_account<S: Alter>(
         → KeepsCommit (state S.Store tx.old.conn.now) (state S.Store tx.new.conn.now) }
     ensures survives { Survives (state S.Store tx.old.conn.now) (state S.Store tx.new.conn.now) (λ _. ⊥) }
 {
+    // In this order, as lines refer to their account's row.
     take_account_lines(tx, key)?;
     put_head(tx, key, account)?;
     let lines = account.lines().to_vec()?;
@@ -284,6 +285,7 @@ fn step_account<S: Alter>(
             set_line(tx, key, line)?;
             Ok(count)
         }
+        // Without a line of the sender's only the numbers may differ.
         None => Ok(count),
     }
 }
@@ -335,6 +337,7 @@ impl Filed for Accounts {
     ) -> Result<Option<Account>, Error> {
         match entity.kind() {
             Kind::Account => find_account(alloc, conn, entity.key(), count),
+            // No row here is one of theirs.
             Kind::Order | Kind::Stock => Ok(None),
         }
     }
@@ -349,6 +352,7 @@ impl Filed for Accounts {
         match (entity.kind(), row) {
             (Kind::Account, Some(account)) => set_account(tx, entity.key(), account, count),
             (Kind::Account, None) => remove_account(tx, entity.key(), count),
+            // They have no place here.
             (Kind::Order | Kind::Stock, _) => Err(Error::InvalidQuery),
         }
     }

@@ -30,7 +30,7 @@ pub trait Filed {
     /// What its seats ask for.
     type Command: CommandBody;
 
-    /// Its schema, and how the rows of its own tables are read.
+    /// The service's schema, and how the rows of its own tables are read.
     ghost filing: { Filing Self.State Self.Command };
 
     /// Which service it is.
@@ -40,14 +40,14 @@ pub trait Filed {
     /// An equal state, in memory of its own or shared with it.
     ///
     /// # Errors
-    /// Where a growth was refused.
+    /// If an allocation fails.
     fn copy_state(alloc: Global, row: &Self::State) -> Result<Self::State, AllocError>
         ensures { IfOk result (λ s. s ≡ row.now) };
 
     /// The row of an entity. How many rows the journal has stands for the contract alone.
     ///
     /// # Errors
-    /// Where the store failed or a growth was refused, and where the file has a row that isn't one of a state.
+    /// If the store or an allocation failed, and where the file has a row that isn't one of a state.
     fn read_state<S: Alter>(
         alloc: Global,
         conn: &mut Connection<S>,
@@ -68,7 +68,7 @@ pub trait Filed {
     /// Sets the row of an entity, or takes it away.
     ///
     /// # Errors
-    /// Where the store failed or a growth was refused, and where the file has no place for the entity.
+    /// If the store or an allocation failed, and where the file has no place for the entity.
     fn write_state<S: Alter>(
         alloc: Global,
         tx: &mut Transaction<'_, S>,
@@ -93,7 +93,7 @@ pub trait Filed {
     /// written than what differs. A seat is no sender.
     ///
     /// # Errors
-    /// Where the store failed or a growth was refused, and where the file has no place for the entity.
+    /// If the store or an allocation failed, and where the file has no place for the entity.
     fn write_step<S: Alter>(
         alloc: Global,
         tx: &mut Transaction<'_, S>,
@@ -120,13 +120,13 @@ pub trait Filed {
             → KeepsCommit (state S.Store tx.old.conn.now) (state S.Store tx.new.conn.now) }
         ensures survives { Survives (state S.Store tx.old.conn.now) (state S.Store tx.new.conn.now) (λ _. ⊥) };
 
-    /// How its rows stood in version 1.
+    /// How the rows of the service were stored in version 1.
     ghost first: { FirstFiling Self.State Self.Command };
 
     /// Writes the rows of version 1 as those of today. `progress` is told of each row that had to be looked at.
     ///
     /// # Errors
-    /// Where the store failed or a growth was refused, and where a row isn't one that version 1 wrote.
+    /// If the store or an allocation failed, and where a row isn't one that version 1 wrote.
     fn renew<S: Alter, P: Progress>(
         alloc: Global,
         tx: &mut Transaction<'_, S>,

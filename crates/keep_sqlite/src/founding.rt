@@ -49,6 +49,7 @@ pub fn with_tables<H: Filed, S: Alter + Drop>(
         × (tables_of H.filing (state S.Store c).committed.trees ≡ empty))) }
     ensures clean { IfOk result (λ c. doubt (state S.Store conn).is_clean ≤ doubt (state S.Store c).is_clean) }
 {
+    // A crash amid the making leaves no tables, as it's one transaction: then they are made now.
     if !has_no_tables(&conn) {
         return Ok(conn);
     }

@@ -79,6 +79,7 @@ fn count_journal<S: Alter>(tx: &mut Transaction<'_, S>) -> Result<u64, Error>
     if last == i64::MAX {
         return Err(Error::InvalidQuery);
     }
+    // As many rows as positions from 1 to the count: none is missing, and none is elsewhere.
     if count_upto(tx, last)? != count {
         return Err(Error::InvalidQuery);
     }
@@ -110,12 +111,13 @@ fn body_of_today(alloc: Global, row: &Row) -> Result<Option<String>, Error>
     let seat: Option<u64> = row.get(2)?;
     match seat {
         Some(_) => body_of_command(alloc, row),
+        // Messages have the body that they always had.
         None => Ok(None),
     }
 }
 
-/// The same of the one row of an answer, where there is an answer. It takes the answer as it comes, so that its caller doesn't
-/// owe its contract at each `?`.
+/// The body that replaces that of an answer's one row; none, where the row can stay. It takes the
+/// answer as it comes, so that its caller doesn't owe its contract at each `?`.
 fn body_of_one(alloc: Global, answer: Result<Vec<Row>, Error>) -> Result<Option<String>, Error>
     ensures { IfOk result (λ body. IsOkAnd answer (λ rows.
         IsBodyOfOne rows.items (option_map (λ s. string_bytes s) body))) }
@@ -184,6 +186,7 @@ fn renew_rows<S: Alter, P: Progress>(
         → KeepsCommit (state S.Store tx.old.conn.now) (state S.Store tx.new.conn.now) }
     ensures survives { Survives (state S.Store tx.old.conn.now) (state S.Store tx.new.conn.now) (λ _. ⊥) }
 {
+    // Row by row, as the kit's SQL has no JSON functions.
     for index in 0..count {
         renew_row(alloc, tx, index + 1)?;
         progress.step();
@@ -195,8 +198,8 @@ fn renew_rows<S: Alter, P: Progress>(
 /// told of each row.
 ///
 /// # Errors
-/// Where the store failed or a growth was refused, where the rows aren't at the positions 1, 2, .., and where a row has
-/// a seat and a body that version 1 wrote of no command.
+/// If the store or an allocation failed, where the rows aren't at the positions 1, 2, .., and where a row has a seat
+/// and a body that version 1 wrote of no command.
 pub fn renew_journal<S: Alter, P: Progress>(
     alloc: Global,
     tx: &mut Transaction<'_, S>,

@@ -43,16 +43,21 @@ use std::marker::PhantomData;
 pub struct SqliteKeep<H: Filed, S: Alter> {
     conn: Connection<S>,
     // What the rows of entities hold, where it was read or written last.
+    // The last 1,024, so that a stock with many lines isn't read again for each letter.
     states: LastStates<H::State>,
     // How many rows the journal has.
     count: u64,
     failures: u64,
     is_usable: bool,
     service: PhantomData<H>,
+    // No transaction is open between two calls.
     ghost autocommit: { conn.in_transaction ≡ false },
+    // While the disk is clean and the store open: the rows are as the schema demands, and the journal has so many.
     ghost sound: { HasCleanDisk (state S.Store conn) → IsTrue (state S.Store conn).is_open
         → IsReady H.filing.schema count (state S.Store conn) } by { ready_prop _ _ _ },
+    // A usable store is open.
     ghost live: { IsTrue is_usable → HasCleanDisk (state S.Store conn) → IsTrue (state S.Store conn).is_open },
+    // The states that are known are those of the rows.
     ghost known: { HasCleanDisk (state S.Store conn) → IsTrue (state S.Store conn).is_open
         → Knows (known_of states) (H.filing.entity (state S.Store conn).now.trees) } by { kept_prop H.State.code (state S.Store conn) _ _ },
 }
@@ -125,13 +130,15 @@ impl<H: Filed, S: Alter> SqliteKeep<H, S> {
         }
     }
 
-    /// The row of an entity, as it stands in the file.
+    /// The row of an entity, as it is in the file.
     fn read_row(&mut self, alloc: Global, entity: &Entity) -> Result<Option<H::State>, KeepFault>
         requires { self.old.is_usable ≡ true }
         ensures { Reads (λ k. seen_of H.filing (state S.Store k.conn) k.is_usable k.failures) self.old self.new
             (λ t row. row ≡ t.entity entity.now) (keep_end result) }
     {
+        // Until the call has ended: only an open store is usable, and a call that fails may shut it.
         self.is_usable = false;
+        // Of a stock or an account all lines are read: some 3 us a line.
         let found = H::read_state::<S>(alloc, &mut self.conn, entity, self.count);
         self.end(found)
     }
@@ -170,6 +177,7 @@ impl<H: Filed, S: Alter> SqliteKeep<H, S> {
         );
         match done {
             Ok(count) => {
+                // Set only now: it's the count of the last commit.
                 self.count = count;
                 self.is_usable = true;
                 Ok(())
@@ -183,7 +191,7 @@ impl<H: Filed> SqliteKeep<H, MemStore> {
     /// Empty tables in memory: they end with the run.
     ///
     /// # Errors
-    /// `Memory` where a growth was refused.
+    /// `Memory` if an allocation fails.
     pub fn memory(alloc: Global) -> Result<Self, KeepFault>
         ensures usable { IfOk result (λ k. (⟦<SqliteKeep<H, MemStore> as Keep>⟧.seen k).usable ≡ true) }
         ensures empty { IfOk result (λ k. (⟦<SqliteKeep<H, MemStore> as Keep>⟧.seen k).doubt ≡ 0
@@ -191,6 +199,7 @@ impl<H: Filed> SqliteKeep<H, MemStore> {
         ensures unfailed { IfOk result (λ k. (⟦<SqliteKeep<H, MemStore> as Keep>⟧.seen k).failures ≡ 0) }
         ensures refused { IfErr result (λ fault. (fault ≡ Memory) ⊎ (fault ≡ Failed)) }
     {
+        // In memory a statement costs by all rows there are: the kit's trees are sorted vectors there.
         let mut conn = Connection::open_in_memory(alloc)?;
         let states = LastStates::new(alloc)?;
         match found::<H, MemStore>(&mut conn) {
@@ -220,7 +229,9 @@ impl<H: Filed, S: Alter> Keep for SqliteKeep<H, S> {
     }
 
     fn entity(&mut self, alloc: Global, entity: &Entity) -> Result<Option<H::State>, KeepFault> {
+        // A hint, which saves the query: each write forgets the state before it touches the row.
         if let Some(state) = self.known_state(alloc, entity)? {
+            // The states that were used last are kept.
             self.states.touch(entity);
             return Ok(Some(state));
         }
@@ -353,6 +364,7 @@ impl<H: Filed, S: Alter + Drop> SqliteKeep<H, S> {
         ensures clean { IfOk result (λ k. doubt (state S.Store conn).is_clean
             ≤ doubt (state S.Store k.conn).is_clean) }
     {
+        // The kit says of a store that its rowids rise, and not of a connection: so that is taken apart and made again.
         let mut conn = match with_sorted_rows(alloc, conn) {
             Ok(conn) => conn,
             Err((error, store)) => return Err((opening_fault(&error), store)),
@@ -374,12 +386,12 @@ impl<H: Filed, S: Alter + Drop> SqliteKeep<H, S> {
         }
     }
 
-    /// Takes over a connection: the tables of the service that stand there, or, where there are no tables, new ones.
+    /// Takes over a connection: the tables of the service that are there, or, where there are no tables, new ones.
     ///
     /// # Errors
     /// `WrongFile` where the tables are others, as those of another service or version. `Failed` where the positions of
-    /// the journal aren't 1, 2, .., where a transaction is open, and where the store failed. `Memory` where a growth
-    /// was refused.
+    /// the journal aren't 1, 2, .., where a transaction is open, and where the store failed. `Memory` if an allocation
+    /// fails.
     pub fn adopt(alloc: Global, conn: Connection<S>) -> Result<Self, KeepFault>
         ensures usable { IfOk result (λ k. (⟦<SqliteKeep<H, S> as Keep>⟧.seen k).usable ≡ true) }
         ensures failures { IfOk result (λ k. (⟦<SqliteKeep<H, S> as Keep>⟧.seen k).failures ≡ 0) }
@@ -388,6 +400,7 @@ impl<H: Filed, S: Alter + Drop> SqliteKeep<H, S> {
         ensures clean { IfOk result (λ k. doubt (state S.Store conn).is_clean
             ≤ (⟦<SqliteKeep<H, S> as Keep>⟧.seen k).doubt) }
     {
+        // A transaction that is open could be rolled back, with the rows that are found now.
         if !conn.is_autocommit() {
             return Err(KeepFault::Failed);
         }
@@ -462,7 +475,7 @@ impl<H: Filed, S: Alter> SqliteKeep<H, S> {
         (conn, failures)
     }
 
-    /// The same tables, where so many failures were counted before.
+    /// The store over its tables, where so many failures were counted before.
     pub fn with_failures(mut self, failures: u64) -> Self
         ensures conn { result.conn ≡ self.conn }
         ensures usable { result.is_usable ≡ self.is_usable }

@@ -36,6 +36,7 @@ fn entity_at(alloc: Global, row: &Row, at: usize) -> Result<Entity, Error>
     let text: String = row.get(at)?;
     match read_entity(alloc, text.as_str())? {
         Some(entity) => Ok(entity),
+        // No call here writes such a text: the file was changed by others, which counts as a failure of the store.
         None => Err(Error::InvalidQuery),
     }
 }
@@ -88,6 +89,7 @@ fn bound_limit(limit: usize) -> i64
     ensures limit { MatchOption (as_count (Int result)) (2 ^ 63 ≤ limit) (λ most. most ≡ limit) }
     ensures fits { FitsSigned w64 result }
 {
+    // SQLite reads a negative LIMIT as none.
     i64::try_from(limit).unwrap_or(-1)
 }
 

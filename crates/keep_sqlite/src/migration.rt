@@ -80,6 +80,7 @@ fn renew_all<H: Filed, S: Alter, P: Progress>(
 {
     // Called for what its contract says: the rows are as the schema demands.
     let _ = conn.schema();
+    // One transaction: whenever it's stopped, the file is of one version or of the other.
     let mut tx = conn.transaction();
     match H::renew(alloc, &mut tx, progress) {
         Ok(()) => tx.commit(),
@@ -90,7 +91,7 @@ fn renew_all<H: Filed, S: Alter, P: Progress>(
     }
 }
 
-/// The same; none, where the tables are others.
+/// Takes the tables in a connection over, as `migrate_connection`; none, where the tables are others.
 #[tactic(auto, using(crate::proofs::Renewals::is_of_today, crate::proofs::Renewals::is_without_tables))]
 fn migrate_tables<H: Filed, S: Alter, P: Progress>(
     alloc: Global,
@@ -133,11 +134,11 @@ fn migrate_tables<H: Filed, S: Alter, P: Progress>(
 impl<H: Filed, S: Alter> SqliteKeep<H, S> {
     /// Takes a file of version 1 over, in one transaction: its tables are then those of version 2, and hold the same. One of
     /// version 2, and one without tables, stays as it is. `progress` is told of each row. A connection whose rows are known
-    /// to stand in order is what [`with_sorted_rows`] gives.
+    /// to be in order is what [`with_sorted_rows`] gives.
     ///
     /// # Errors
-    /// `WrongFile` where the tables are others, as those of another service. `Failed` where a row isn't one that version 1
-    /// wrote, where a transaction is open, and where the store failed. `Memory` where a growth was refused. What was committed stays.
+    /// `WrongFile` where the tables are others, as those of another service. `Failed` where a row isn't one that version 1 wrote,
+    /// where a transaction is open, and where the store failed. `Memory` if an allocation fails. What was committed stays.
     pub fn migrate_connection<P: Progress>(
         alloc: Global,
         conn: &mut Connection<S>,

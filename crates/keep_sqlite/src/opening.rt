@@ -59,6 +59,7 @@ fn is_of<S: Alter>(conn: &mut Connection<S>, service: Service) -> Result<bool, E
     ensures clean { doubt (state S.Store conn.old).is_clean ≤ doubt (state S.Store conn.new).is_clean }
 {
     let rows = read_about(conn, service)?;
+    // One row is what was written when the tables were made.
     let [row] = rows.as_slice() else {
         return Ok(false);
     };
@@ -125,6 +126,7 @@ fn count_journal<S: Alter>(conn: &mut Connection<S>) -> Result<u64, Error>
     if last == i64::MAX {
         return Err(Error::InvalidQuery);
     }
+    // As many rows as positions from 1 to the count: none is missing, and none is elsewhere.
     if count_upto(conn, last)? != count {
         return Err(Error::InvalidQuery);
     }
@@ -154,12 +156,15 @@ pub fn examine<H: Filed, S: Alter>(
     ensures clean { doubt (state S.Store conn.old).is_clean ≤ doubt (state S.Store conn.new).is_clean }
 {
     let service = H::service();
+    // The schema first: without the table `about` the query below would fail, and a wrong file would be reported as a
+    // broken one.
     if !has_tables(alloc, &*conn, service)? {
         return Ok(None);
     }
     if !is_of(conn, service)? {
         return Ok(None);
     }
+    // By two counts: an opening reads every row anyway, 100 to 130 us of CPU time per order.
     let count = count_journal(conn)?;
     Ok(Some(count))
 }

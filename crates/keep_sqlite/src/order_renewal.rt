@@ -82,7 +82,7 @@ fn put_orders<S: Alter, P: Progress>(
 }
 
 /// Writes the rows that purchasing had in version 1 as those of today: its orders are read before their table is
-/// dropped, and put into the new ones behind it. `progress` is told of each row of the journal and each order.
+/// dropped, and put into the new ones after it. `progress` is told of each row of the journal and each order.
 pub fn renew_orders<S: Alter, P: Progress>(
     alloc: Global,
     tx: &mut Transaction<'_, S>,
@@ -102,6 +102,7 @@ pub fn renew_orders<S: Alter, P: Progress>(
 {
     let rows = read_first_orders_inside(tx)?;
     let keyed = orders_of(alloc, rows.as_slice())?;
+    // Dropped and not emptied: an empty `orders` would give every statement a second shape of a file.
     replace_tables(tx)?;
     let count = renew_journal(alloc, tx, progress)?;
     put_orders(tx, keyed.as_slice(), count, progress)?;

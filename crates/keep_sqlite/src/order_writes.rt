@@ -80,6 +80,7 @@ fn add_line<S: Alter>(
     add_order_line(
         tx,
         key,
+        // Lines are numbered from 1.
         index as i64 + 1,
         stock.entity().key(),
         bound_number(stock.number()),
@@ -146,7 +147,9 @@ pub fn put_order<S: Alter>(
     ensures survives { Survives (state S.Store tx.old.conn.now) (state S.Store tx.new.conn.now) (λ _. ⊥) }
 {
     let status = order.status();
+    // An order has two partners at least.
     let stocks = order.partner_count().saturating_sub(1);
+    // The account is the last of an order's partners, the stocks come before it.
     let Some(account) = order.partner(stocks) else {
         return Err(Error::InvalidQuery);
     };

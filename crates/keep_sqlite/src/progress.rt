@@ -7,7 +7,7 @@ const ROWS: u64 = 100_000;
 
 /// Is told how far a file was taken over. The unit type is one that tells nobody.
 pub trait Progress {
-    /// One more row was taken over: of the journal, or an order.
+    /// Called for each row that was taken over: of the journal, or an order.
     fn step(&mut self);
 }
 
@@ -38,7 +38,7 @@ impl<'a> Progress for TerminalProgress<'a> {
     fn step(&mut self) {
         self.rows = self.rows.saturating_add(1);
         if self.is_terminal && self.rows % ROWS == 0 {
-            // a terminal that is gone is no reason to stop
+            // A terminal that is gone is no reason to stop.
             let _ = eprintln!(self.rt; "{} rows taken over", self.rows);
         }
     }

@@ -42,15 +42,16 @@ fn told_by(done: Result<Statement, Error>) -> Result<(), KeepFault>
                 | ErrorCode::DiskFull,
             ),
         ) => Err(KeepFault::Failed),
+        // Refused for its text: so the connection has read it, and is open.
         _ => Ok(()),
     }
 }
 
 /// Looks whether the connection is still open. The text is no statement: where the connection is open it's refused at
-/// its first word, which takes no memory.
+/// its first word, which allocates nothing.
 ///
 /// # Errors
-/// `Failed` where the connection was shut, or the disk failed. `Memory` where a growth was refused, which tells neither.
+/// `Failed` where the connection was shut, or the disk failed. `Memory` if an allocation fails, which tells neither.
 pub fn look<S: Alter>(conn: &mut Connection<S>) -> Result<(), KeepFault>
     requires autocommit { conn.old.in_transaction ≡ false }
     requires settled { HasCleanDisk (state S.Store conn.old) → IsTrue (state S.Store conn.old).is_open
@@ -65,6 +66,7 @@ pub fn look<S: Alter>(conn: &mut Connection<S>) -> Result<(), KeepFault>
         → (state S.Store conn.old).may_leave db }
     ensures clean { doubt (state S.Store conn.old).is_clean ≤ doubt (state S.Store conn.new).is_clean }
 {
+    // A query would allocate, and a reopening whose query found no memory would be reported as a failure.
     told_by(conn.prepare("look"))
 }
 

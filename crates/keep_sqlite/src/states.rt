@@ -20,6 +20,7 @@ pub fn remember_row<H: Filed>(
         → Knows (known_of states.new) rows }
 {
     if let Some(state) = row {
+        // A copy that finds no memory is left out: the next read takes the row from the file.
         if let Ok(state) = H::copy_state(alloc, state) {
             states.remember(alloc, entity, state);
         }

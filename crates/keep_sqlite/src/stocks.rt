@@ -243,6 +243,7 @@ fn set_stock<S: Alter>(
         → KeepsCommit (state S.Store tx.old.conn.now) (state S.Store tx.new.conn.now) }
     ensures survives { Survives (state S.Store tx.old.conn.now) (state S.Store tx.new.conn.now) (λ _. ⊥) }
 {
+    // In this order, as lines refer to their stock's row.
     take_stock_lines(tx, key)?;
     put_head(tx, key, stock)?;
     let lines = stock.lines().to_vec()?;
@@ -282,6 +283,7 @@ fn step_stock<S: Alter>(
             set_line(tx, key, line)?;
             Ok(count)
         }
+        // Without a line of the sender's only the numbers may differ.
         None => Ok(count),
     }
 }
@@ -329,6 +331,7 @@ impl Filed for Stocks {
     ) -> Result<Option<Stock>, Error> {
         match entity.kind() {
             Kind::Stock => find_stock(alloc, conn, entity.key(), count),
+            // No row here is one of theirs.
             Kind::Order | Kind::Account => Ok(None),
         }
     }
@@ -343,6 +346,7 @@ impl Filed for Stocks {
         match (entity.kind(), row) {
             (Kind::Stock, Some(stock)) => set_stock(tx, entity.key(), stock, count),
             (Kind::Stock, None) => remove_stock(tx, entity.key(), count),
+            // They have no place here.
             (Kind::Order | Kind::Account, _) => Err(Error::InvalidQuery),
         }
     }

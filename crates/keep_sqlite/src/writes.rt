@@ -44,6 +44,7 @@ pub fn bound_number(number: Number) -> i64
     ensures number { is_number number ≡ true }
 {
     let value = number.get();
+    // 2^40 at most, so it fits.
     value as i64
 }
 
@@ -53,6 +54,7 @@ pub fn bound_quantity(quantity: u64) -> i64
     ensures value { result ≡ pos quantity }
     ensures small { quantity < 2 ^ 63 }
 {
+    // 2^40 at most, as the business has it: it fits.
     quantity as i64
 }
 
@@ -158,7 +160,7 @@ fn cell_in(rows: &[Row], at: usize) -> Result<i64, Error>
     }
 }
 
-/// The same, where there is an answer.
+/// The value in a column of an answer's first row, or 0, where there is an answer; else the answer's error.
 fn cell_of(answer: Result<Vec<Row>, Error>, at: usize) -> Result<i64, Error>
     ensures cell { IfOk result (λ z. IsOkAnd answer (λ rows. IsFirstCell at rows.items z)) }
     ensures fits { IfOk result (FitsSigned w64) }
@@ -189,6 +191,7 @@ fn put_sent<H: Filed, S: Alter>(
         → KeepsCommit (state S.Store tx.old.conn.now) (state S.Store tx.new.conn.now) }
     ensures survives { Survives (state S.Store tx.old.conn.now) (state S.Store tx.new.conn.now) (λ _. ⊥) }
 {
+    // Both marks are in one row, which is written whole: the settled one stays.
     let rows = find_marks(tx, pair.from.text(), pair.to.text());
     let settled = cell_of(rows, 1)?;
     let made = put_out_marks(
@@ -277,6 +280,7 @@ fn put_settled<H: Filed, S: Alter>(
         → KeepsCommit (state S.Store tx.old.conn.now) (state S.Store tx.new.conn.now) }
     ensures survives { Survives (state S.Store tx.old.conn.now) (state S.Store tx.new.conn.now) (λ _. ⊥) }
 {
+    // Both marks are in one row, which is written whole: the number sent last stays.
     let rows = find_marks(tx, pair.from.text(), pair.to.text());
     let sent = cell_of(rows, 0)?;
     let made = put_out_marks(
@@ -360,6 +364,7 @@ fn write_command<H: Filed, S: Alter>(
         → KeepsCommit (state S.Store tx.old.conn.now) (state S.Store tx.new.conn.now) }
     ensures survives { Survives (state S.Store tx.old.conn.now) (state S.Store tx.new.conn.now) (λ _. ⊥) }
 {
+    // The count that is kept beside the file must not wrap around.
     if count == u64::MAX {
         return Err(Error::InvalidQuery);
     }
@@ -406,7 +411,7 @@ fn write_message<H: Filed, S: Alter>(
     counted(made, count + 1)
 }
 
-/// Adds a row to the journal, behind the others.
+/// Adds a row to the journal, after the others.
 fn write_row<H: Filed, S: Alter>(
     alloc: Global,
     tx: &mut Transaction<'_, S>,
@@ -538,6 +543,7 @@ fn write_known<H: Filed, S: Alter>(
     ensures survives { Survives (state S.Store tx.old.conn.now) (state S.Store tx.new.conn.now) (λ _. ⊥) }
 {
     match (change, step) {
+        // A step writes parts of a row, so it needs one that is known to be there.
         (Change::State(entity, Some(state)), Some(sender)) if is_known => {
             H::write_step::<S>(alloc, tx, entity, state, sender, count)
         }
@@ -574,6 +580,7 @@ fn write_one<H: Filed, S: Alter>(
     ensures known { HasCleanDisk (state S.Store tx.new.conn.now)
         → OnOk result (Knows (known_of states.new) (H.filing.entity (state S.Store tx.new.conn.now).now.trees)) }
 {
+    // Forgotten before the row is written: where the statement fails, no state is known that the file hasn't got.
     let is_known = forget(states, change);
     let count = write_known::<H, S>(alloc, tx, change, step, is_known, count)?;
     note::<H>(alloc, states, change);
@@ -586,6 +593,7 @@ fn step_at<S, C>(changes: &[Change<S, C>], place: usize, are_steps: bool) -> Opt
     ensures { option_map option_copied result ≡ step_at are_steps (drop (place + 1) changes.now) }
 {
     if are_steps {
+        // A state's row of the journal comes right after it, and says by whose input the state came.
         sender_behind(&changes[place + 1..])
     } else {
         None
@@ -666,6 +674,7 @@ pub fn write_all<H: Filed, S: Alter>(
     let count = match stage::<H, S>(alloc, &mut tx, states, changes, are_steps, count) {
         Ok(count) => count,
         Err(error) => {
+            // The rollback takes the rows back, and not what was noted beside them.
             states.clear();
             tx.rollback();
             return Err(error);
@@ -675,6 +684,7 @@ pub fn write_all<H: Filed, S: Alter>(
     match tx.commit() {
         Ok(()) => Ok(count),
         Err(error) => {
+            // Whether the commit is in the file isn't known now.
             states.clear();
             Err(error)
         }

@@ -120,6 +120,7 @@ module _ (seats places id : ℕ) (v : View) (other : ℕ) (w : View) (s : State 
             (each_set (ReadRaised joined) s.views id (joint v w) both read);
       }
 
+-- to join two seats keeps the rule: the one has the parts and the memory of both
 pub gathers_keep : (seats places id : ℕ) (v : View) (other : ℕ) (w : View) → 0 < v.parts
     → Joins (IsKept seats places) id v other w (joint v w) (unused 0)
 gathers_keep seats places id v other w part s kept at apart stands =

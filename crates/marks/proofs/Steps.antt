@@ -86,6 +86,7 @@ module _ (seats places id place : ℕ) (v : View) (s : State Unit View) (kept : 
         read = each_set (ReadRaised read_views) s.views id read_view mine read;
       }
 
+-- a read keeps the rule
 pub reads_keep : (seats places slots id place : ℕ) (me : Me Unit View) → 0 < me.0.parts
     → Allows (IsKept seats places) slots id me place (λ n. n) (Reads (step slots place 0 0 none) me)
 reads_keep seats places slots id place me part s kept len at fits =
@@ -172,6 +173,7 @@ module _ (seats places id place k : ℕ) (v : View) (s : State Unit View) (kept 
         read = each_set (ReadRaised raised_views) s.views id raised_view (read id v at) read;
       }
 
+-- a raise keeps the rule: a mark becomes the greater of itself and the number
 pub raises_keep : (seats places slots id place k : ℕ) (me : Me Unit View) → 0 < me.0.parts → place < places
     → Allows (IsKept seats places) slots id me place (λ n. max n k) (Raises (step slots place k 0 none) me)
 raises_keep seats places slots id place k me part within s kept len at fits = (

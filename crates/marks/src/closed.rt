@@ -10,6 +10,7 @@ use crate::limits::PLACES;
 pub struct Closed {
     marks: [u64; PLACES],
     places: usize,
+    // So that each place below the number of places is an index of the array.
     ghost most: { places ≤ PLACES },
 }
 

@@ -17,6 +17,7 @@ use std::alloc::{AllocError, Global};
 pub struct Marks {
     table: Table<(), View, Size, Rises, Global>,
     places: usize,
+    // The table has a word for each place.
     ghost words: { table.shared.table_id.words ≡ places },
     ghost known: { table.shared.key.places ≡ places },
     ghost some: { 0 < places },
@@ -28,11 +29,12 @@ pub struct Marks {
 #[derive(Drop)]
 pub struct MarkSeat {
     seat: Seat<(), View>,
+    // Each seat has one part of the right to close.
     ghost one: { seat.me.0.parts ≡ 1 },
     ghost free: { seat.me.1 ≡ [] },
 }
 
-/// So many zeros.
+/// A list of so many zeros.
 fn zeros(alloc: Global, count: usize) -> Result<Vec<u64>, AllocError>
     ensures { IfOk result (λ v. v.items ≡ replicate count 0) }
 {
@@ -56,13 +58,14 @@ impl Marks {
             list.push_reserved(MarkSeat { seat });
             left -= 1;
         }
+        // What is left of the first seat is the last one.
         list.push_reserved(MarkSeat { seat: first });
     }
 
     /// Marks of 0 at so many places, 1 to `PLACES`, and so many seats, 1 to `SEATS`.
     ///
     /// # Errors
-    /// `AllocError`: a growth was refused.
+    /// `AllocError`: an allocation failed.
     pub fn open(
         alloc: Global,
         places: usize,
@@ -75,6 +78,7 @@ impl Marks {
         ensures each { IfOk result (λ opened. All
             (λ s. IsSeatOf opened.0 s × (raised_by s ≡ []) × (read_by s ≡ [])) opened.1.items) }
     {
+        // Room for all seats first: `close` needs every one of them, so none may be lost while they are dealt.
         let mut list = Vec::with_capacity(alloc, seats)?;
         let zeros: Vec<u64> = zeros(alloc, places)?;
         let size = Size {
@@ -95,6 +99,7 @@ impl Marks {
         ensures raised { raised_by seat.new ≡ raised_by seat.old ++ entry place number ∷ [] }
         ensures read { read_by seat.new ≡ read_by seat.old }
     {
+        // One atomic step and no loop: a thread that is stopped in it keeps no other waiting.
         self.table
             .shared
             .fetch_max::<Raise>(&mut seat.seat, place, number);
@@ -113,7 +118,7 @@ impl Marks {
         self.table.shared.load::<Read>(&mut seat.seat, place)
     }
 
-    /// One seat that has all parts, and knows what all of these seats know.
+    /// Joins seats into one that has all their parts, and knows what each of them knows.
     fn gather(&self, mut seats: Vec<MarkSeat>) -> Seat<(), View>
         requires all { vec_len seats ≡ seats_of self.now }
         requires each { All (IsSeatOf self.now) seats.items }
@@ -123,6 +128,7 @@ impl Marks {
         ensures read { result.me.0.read ≡ flat_map read_by seats.items }
     {
         let Some(last) = seats.pop() else {
+            // Marks have one seat at least.
             unreachable!()
         };
         let MarkSeat { seat: mut all } = last;
@@ -159,7 +165,9 @@ impl Marks {
             → greatest place (flat_map read_by seats.items) ≤ mark_of result place }
         ensures was_raised { All (WasRaised (flat_map raised_by seats.items)) (flat_map read_by seats.items) }
     {
+        // All seats: with all parts of the right to close, no other one can have raised anything.
         let mut all = self.gather(seats);
+        // One seat has all parts now: nobody else can raise a mark, so what is read is final.
         let marks = self.settled(&mut all);
         Closed::new(marks, self.places)
     }

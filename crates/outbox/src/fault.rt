@@ -9,7 +9,7 @@ use thiserror::Error;
 /// Why the outbox didn't take what an entity sends.
 #[derive(Clone, Copy, Debug, PartialEq, Eq, Error)]
 pub enum OutboxFault {
-    /// The store failed, or memory was refused.
+    /// The store failed, or an allocation failed.
     #[error("{0}")]
     Store(KeepFault),
     /// The number of a letter would be above 2^40.

@@ -1,4 +1,4 @@
-//! What a service sends: letters with the next numbers of their pairs, whose rows stand in the store until they are
+//! What a service sends: letters with the next numbers of their pairs, whose rows are in the store until they are
 //! settled.
 //!
 //! The letters of a pair are numbered 1, 2, .. in the order in which they were sent, and no number is above 2^40. A row

@@ -22,6 +22,7 @@ fn count_to(outs: &[Out], receiver: &Entity) -> u64
 {
     let mut count = 0;
     for out in outs {
+        // Numbers are given by pair: what goes to others doesn't count.
         if *receiver == out.receiver {
             count += 1;
         }
@@ -42,6 +43,7 @@ fn next_number<K: Keep>(
         (λ t _. MAX_NUMBER < t.sent pair.now + before + 1) (outbox_end result) }
 {
     let last = keep.sent(alloc, pair)?;
+    // Saturating: a sum that is too large is above the limit as well, and is refused.
     let next = last.saturating_add(before).saturating_add(1);
     match Number::new(next) {
         Some(number) => Ok(number),
@@ -64,6 +66,7 @@ fn number_out<K: Keep>(
         (λ t letter. (letter ≡ letter_to t.sent entity.now before.now out.now) × (letter.number ≤ MAX_NUMBER)) IsLimit
         (λ t _. MAX_NUMBER < (letter_to t.sent entity.now before.now out.now).number) (outbox_end result) }
 {
+    // The store knows none of these yet: they are written by the same transaction.
     let count = count_to(before, &out.receiver);
     let pair = Pair {
         from: entity.copy(alloc)?,

@@ -10,7 +10,7 @@ use std::alloc::{AllocError, Global};
 /// The change that marks the letters of a pair as settled, up to a number: their rows go.
 ///
 /// # Errors
-/// Where a growth was refused.
+/// If an allocation fails.
 pub fn settle<S: Drop, C: Drop>(
     alloc: Global,
     pair: &Pair,
@@ -19,6 +19,7 @@ pub fn settle<S: Drop, C: Drop>(
     ensures { IfOk result (λ changes. changes.items ≡ Settled pair.now number ∷ []) }
 {
     let mut changes = Vec::new(alloc);
+    // One change takes all rows up to the number, and not one a row.
     changes.push(Change::Settled(pair.copy(alloc)?, number))?;
     Ok(changes)
 }

@@ -83,6 +83,7 @@ tested (e ∷ []) h = rw h refl
 tested (e ∷ f ∷ es) h = three (is_stock e.kind) (not (stands_in e (f ∷ es))) (are_stocks_then_account (f ∷ es))
     (ap is_stock h.0) (ap not (stands_nowhere e (f ∷ es) h.1)) (tested (f ∷ es) h.2)
 
+-- the test finds what partners are: stocks, each once, and then an account
 pub partners_are : (es : List Entity) → are_partners es ≡ true → ArePartners es
 partners_are es h =
     let all = all_three (nat_lt 1 (length es)) (nat_le (length es) 9) (are_stocks_then_account es) h in
@@ -90,6 +91,7 @@ partners_are es h =
     let few : length es ≤ 9 = let t = all.1 in grind (arith, nat_tests) in
     record { in_order = in_order es all.2; some = some; few = few }
 
+-- what the test refuses are no partners
 pub partners_are_not : (es : List Entity) → are_partners es ≡ false → ArePartners es → ⊥
 partners_are_not es h is =
     let order = tested es is.in_order in
@@ -101,6 +103,7 @@ partners_are_not es h is =
 
 -- ---- one partner's phase
 
+-- the phase of an entity is set at its first place
 pub with_phase-at : (e : Entity) (phase : Phase) (ps : List Partner) (at : ℕ) (b d : Partner)
     → stands_in e (names (take at ps)) ≡ false
     → at < length ps → same_entity e (get_or ps at b).entity ≡ true
@@ -111,6 +114,7 @@ with_phase-at e phase (p ∷ ps) (suc at) b d h lt same =
     let both : (same_entity e p.entity ≡ false) × (stands_in e (names (take at ps)) ≡ false) = grind arith in
     rw both.0 (ap (λ qs. p ∷ qs) (with_phase-at e phase ps at b d both.1 (omega arith) same))
 
+-- the phase of an entity that isn't there changes nothing
 pub with_phase-none : (e : Entity) (phase : Phase) (ps : List Partner) → stands_in e (names ps) ≡ false
     → with_phase e phase ps ≡ ps
 with_phase-none e phase [] h = refl
@@ -118,6 +122,7 @@ with_phase-none e phase (p ∷ ps) h =
     let both : (same_entity e p.entity ≡ false) × (stands_in e (names ps) ≡ false) = grind arith in
     rw both.0 (ap (λ qs. p ∷ qs) (with_phase-none e phase ps both.1))
 
+-- a partner that isn't the entity leaves it not found so far
 pub not_before : (e : Entity) (ps : List Partner) (at : ℕ) (d : Partner) → stands_in e (names (take at ps)) ≡ false
     → at < length ps → same_entity e (get_or ps at d).entity ≡ false → stands_in e (names (take (suc at) ps)) ≡ false
 not_before e [] at d h lt other = absurd (omega arith)
@@ -128,6 +133,7 @@ not_before e (p ∷ ps) (suc at) d h lt other =
 
 -- ---- all of them
 
+-- with one more phase set, one more partner is in the phase
 pub all_in-next : (phase : Phase) (ps : List Partner) (at : ℕ) (d : Partner) → at < length ps
     → set (all_in phase (take at ps) ++ drop at ps) at
     (record (get_or (all_in phase (take at ps) ++ drop at ps) at d) { phase = phase })
@@ -176,11 +182,13 @@ kept old new n e k h =
     let size : length new ≡ length old = sym (length-names new) ∙ ap length e ∙ length-names old in
     subst (λ ps. ArePartners (names ps)) (sym (written old new n k size)) (subst ArePartners (sym e) h)
 
+-- to set all phases leaves who the partners are
 pub all_kept : (phase : Phase) (old new : List Partner) (n : ℕ) → new ≡ all_in phase old → n ≡ length old
     → ArePartners (names old)
     → ArePartners (names (take n (new ++ drop (length new) old)))
 all_kept phase old new n e k h = kept old new n (ap names e ∙ entities-all_in phase old) k h
 
+-- to set one phase leaves who the partners are
 pub phase_kept : (s : Entity) (phase : Phase) (old new : List Partner) (n : ℕ) → new ≡ with_phase s phase old
     → n ≡ length old
     → ArePartners (names old) → ArePartners (names (take n (new ++ drop (length new) old)))
@@ -192,6 +200,7 @@ requests-some : (is : List Item) (account : List ℕ) (amount : ℕ) → request
 requests-some [] account amount = λ e. absurd (cc)
 requests-some (i ∷ is) account amount = λ e. absurd (cc)
 
+-- an order that is placed sends messages to its partners
 pub placing_sends : (x : Option OrderState) (is : List Item) (account : List ℕ) (amount : ℕ) → x ≡ None
     → are_lines is ≡ true
     → are_numbers is ≡ true → is_number amount ≡ true → IsSending (on_order_command x (Place is account amount))

@@ -13,7 +13,7 @@ use envelope::Message;
 use std::alloc::{AllocError, Global};
 use trade::{Items, OrderCommand};
 
-/// What purchasing does with what its orders take in.
+/// What purchasing does with what its orders process.
 ///
 /// An order is none until it is placed. Then it is open until all its partners hold what they were asked for, and is
 /// confirmed, or until a partner refuses or a seat gives it up, and is cancelled. An input that sends nothing never
@@ -123,6 +123,7 @@ impl Reacting for Orders {
         message: Message,
         outs: &mut Outs,
     ) -> Result<(), AllocError> {
+        // An order that wasn't placed has asked nobody.
         let Some(order) = state else {
             return Ok(());
         };
@@ -151,6 +152,7 @@ fn place(
     if state.is_some() {
         return Err(HandlerFault::Business(Refusal::AlreadyPlaced));
     }
+    // Before the numbers: that an order is sound follows from its lines alone.
     if !lines.are_lines() {
         return Err(HandlerFault::Business(Refusal::BadLines));
     }
@@ -162,6 +164,7 @@ fn place(
     };
     let order = Order::open(alloc, lines, account, amount)?;
     order.request(alloc, outs)?;
+    // Last: where an allocation fails, nothing is placed and nothing is sent.
     *state = Some(order);
     Ok(())
 }

@@ -47,6 +47,7 @@ fn are_stocks_then_account(partners: &[Partner]) -> bool
 pub(crate) fn are_partners(partners: &[Partner]) -> bool
     ensures { result ≡ are_partners (names partners.now) }
 {
+    // One more than lines: the account.
     1 < partners.len() && partners.len() <= MAX_LINES + 1 && are_stocks_then_account(partners)
 }
 
@@ -74,6 +75,7 @@ pub(crate) fn to_ask(
     let mut partners = Vec::new(alloc);
     for item in items {
         let Some(quantity) = Number::new(item.quantity) else {
+            // `place` has tested all numbers.
             unreachable!()
         };
         let stock = Entity::new(alloc, Kind::Stock, &item.stock)?;
@@ -90,6 +92,7 @@ pub(crate) fn awaits(partners: &[Partner], sender: &Entity) -> bool
 {
     for partner in partners {
         if partner.is(sender) {
+            // Each partner is there once, so no other need be looked at.
             return partner.is_requested();
         }
     }
@@ -102,6 +105,7 @@ pub(crate) fn waits_for_no_other(partners: &[Partner], sender: &Entity) -> bool
 {
     let mut is_found = false;
     for partner in partners {
+        // The sender's own phase isn't tentative yet: it's set only where others are waited for.
         if !is_found && partner.is(sender) {
             is_found = true;
         } else if !partner.is_tentative() {
@@ -111,7 +115,7 @@ pub(crate) fn waits_for_no_other(partners: &[Partner], sender: &Entity) -> bool
     true
 }
 
-/// Asks each for its number: all of them, or none where memory is refused.
+/// Asks each for its number: all of them, or none if an allocation fails.
 pub(crate) fn request(
     alloc: Global,
     partners: &[Partner],
@@ -127,6 +131,7 @@ pub(crate) fn request(
             partner.entity(),
             Message::Request(partner.number()),
         ) {
+            // All or none: no partner may be asked for an order that isn't placed.
             outs.truncate(before);
             return Err(refused);
         }
@@ -134,7 +139,7 @@ pub(crate) fn request(
     Ok(())
 }
 
-/// Tells each the same: all of them, or none where memory is refused.
+/// Sends a message to each partner: to all of them, or to none if an allocation fails.
 pub(crate) fn tell_all(
     alloc: Global,
     partners: &[Partner],
@@ -155,7 +160,7 @@ pub(crate) fn tell_all(
     Ok(())
 }
 
-/// Tells each but the sender the same: all of them, or none where memory is refused.
+/// Sends a message to each partner but the sender: to all of them, or to none if an allocation fails.
 pub(crate) fn tell_others(
     alloc: Global,
     partners: &[Partner],

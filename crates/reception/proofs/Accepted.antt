@@ -16,6 +16,7 @@ use Rattle.reception.specs.declared.prepared.Prepared.{Prepared}
 use Rattle.reception.specs.declared.prepared.Prepared.TheVariants.{Done, Letter, Settle}
 use Rattle.reception.specs.declared.taken.Taken.{Taken}
 
+-- after CONNECTED is accepted the session is connected, and nothing else has changed
 pub connected_after : (f : Content) (old new : Client ℕ) (e : ClientEvent ℕ) → e ≡ event.Connected
     → Accepts f old new (Ok e)
     → new ≡ connected old
@@ -23,6 +24,7 @@ connected_after f old new e is h =
     let P : ClientEvent ℕ → Type 0 = λ x. TellsFrame f old new x in
     (subst P is h.1).1
 
+-- after a MESSAGE is accepted nothing has changed, and the event has that MESSAGE
 pub message_after : (f : Content) (old new : Client ℕ) (m : Content) (e : ClientEvent ℕ) → e ≡ event.Message m
     → Accepts f old new (Ok e)
     → (m ≡ f) × (new ≡ old)
@@ -38,6 +40,7 @@ pub answers_at : (kind : Kind) (f g : Content) (old between new : Client ℕ) (r
 answers_at kind f g old between new r frame same h =
     subst (λ f. Answers kind f old new r) frame (subst (λ c. Answers kind g c new r) same h)
 
+-- to prepare an equal frame by an equal client is to prepare this one
 pub prepares_at : (kind : Kind) (f g : Content) (old between new : ClientWithRoom ℕ) (r : Result Prepared Untaken)
     → g ≡ f
     → between.client ≡ old.client → PreparesFrame kind g between new r → PreparesFrame kind f old new r

@@ -44,6 +44,7 @@ fn accept(
 {
     match client.accept(message) {
         Ok(ClientEvent::Message(message)) => Ok(message),
+        // The frame is a MESSAGE: that's for the caller to see to.
         Ok(_) => unreachable!(),
         Err(fault) => Err(ReceptionFault::Client(fault)),
     }
@@ -63,6 +64,7 @@ fn settle(
     ensures err { OnErr result (client.new.client ≡ client.old.client) }
     ensures fault { IfErr result (IsLetterWant client.old.client.transactions) }
 {
+    // Tested before anything allocates, so that out of memory never hides a fault that stays.
     if client.transactions() == u64::MAX {
         return Err(ReceptionFault::Client(ClientFault::NumbersUsed));
     }
@@ -146,7 +148,7 @@ fn write_settle(
 /// # Errors
 /// - `End`, as the endpoint told it: ACK is written after `NotMine` and `NotSent`, nothing after `StoreFailed`, and else NACK.
 /// - `Client(Memory)`, `Envelope(Memory)`, and where the last number of a transaction was given `Client(NumbersUsed)`:
-///   nothing is written, and the MESSAGE is given back.
+///   nothing is written, and the MESSAGE is returned.
 /// - `Client(Closed)` and `Client(Unexpected)` as `ClientSession::accept` tells them: nothing is written.
 pub fn answer_letter(
     alloc: Global,
@@ -163,6 +165,7 @@ pub fn answer_letter(
 {
     let message = match accept(client, message) {
         Ok(message) => message,
+        // The session is closed now, so the broker redelivers the MESSAGE on another connection.
         Err(fault) => return Err(Untaken { fault, frame: None }),
     };
     match write_letter(alloc, client, &message, letter, answer) {
@@ -171,9 +174,8 @@ pub fn answer_letter(
     }
 }
 
-/// The same of a MESSAGE that carries a settle: ACK is written where it was noted. What it settles isn't asked for: no answer
-/// says it.
-///
+/// Takes a settle whose MESSAGE was read before, and to which the endpoint has answered: ACK is written where it was
+/// noted. What it settles isn't asked for: no answer says it.
 /// # Errors
 /// As of [`answer_letter`], but for `Envelope(Memory)` and `Client(NumbersUsed)`.
 pub fn answer_settle(

@@ -35,6 +35,7 @@ fn make_settle(
             client.room(text.len())?;
             Ok(text)
         }
+        // Without a connection no settle is written: the sender resends the letter, and its duplicate is settled.
         _ => Ok(Vec::new(alloc)),
     }
 }
@@ -63,7 +64,7 @@ where
     let Some(number) = Number::new(handled.saturating_add(1)) else {
         return Ok(None);
     };
-    // Before the letter is touched: behind the store's answer nothing may be wanting.
+    // Before the letter is touched: after the store's answer nothing may be wanting.
     let text = make_settle(alloc, client, &pair, number)?;
     match endpoint.drain_held(alloc, &pair) {
         Ok(Some(_)) => {

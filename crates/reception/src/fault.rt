@@ -14,10 +14,10 @@ pub enum ReceptionFault {
     /// What came is no frame.
     #[error("{0}")]
     Frame(FrameFault),
-    /// The client's session refused the frame; or memory was refused, or no number of a transaction is left.
+    /// The client's session refused the frame; or an allocation failed, or no number of a transaction is left.
     #[error("{0}")]
     Client(ClientFault),
-    /// The frame carries no envelope, or memory was refused.
+    /// The frame carries no envelope, or an allocation failed.
     #[error("{0}")]
     Envelope(EnvelopeFault),
     /// The endpoint refused what the frame carries, or its store failed.

@@ -55,12 +55,13 @@ pub(crate) fn settle_up_to(
     Ok(())
 }
 
-/// How far a pair is settled when one of its letters comes again.
+/// How far a pair is settled when one of its letters is redelivered.
 pub(crate) fn settled_again(number: Number, handled: u64) -> Number
     ensures { result ≡ settled_again number handled }
 {
     match Number::new(handled) {
         Some(mark) => mark,
+        // Never so: what was handled has a number.
         None => number,
     }
 }
@@ -77,6 +78,7 @@ impl PreparedLetter {
         ensures told { ToldOfLetter self.now.letter (Ok (ingested.Repeated handled)) result }
         ensures answers { (kind : Kind) → Answers kind self.now.message client.old.client client.new.client result }
     {
+        // Made only now: how far the pair was handled is in the answer, by which nothing has changed.
         let mark = settled_again(self.letter.number, handled);
         settle_up_to(alloc, client, &self.message, &self.letter.pair, mark)?;
         Ok(Taken::Repeated(mark.get()))
@@ -116,8 +118,8 @@ impl PreparedLetter {
     /// # Errors
     /// - `End`, as the endpoint tells it: ACK is written after `NotMine` and `NotSent`, nothing after `StoreFailed`,
     ///   and else NACK.
-    /// - `Client(Memory)` and `Envelope(Memory)` for a letter that came again: nothing is written, and the frame is
-    ///   given back. How far its pair was handled is known only now, and by such an answer nothing has changed.
+    /// - `Client(Memory)` and `Envelope(Memory)` for a letter that was redelivered: nothing is written, and the frame
+    ///   is returned. How far its pair was handled is known only now, and by such an answer nothing has changed.
     pub fn finish(
         self,
         alloc: Global,

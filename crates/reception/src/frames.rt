@@ -70,7 +70,7 @@ where
 ///
 /// # Errors
 /// - `Client(Memory)`, `Envelope(Memory)`, and for a letter `Client(NumbersUsed)` where the last number of a
-///   transaction was given: nothing is written, the frame is given back, and the store was read at most.
+///   transaction was given: nothing is written, the frame is returned, and the store was read at most.
 /// - `Client(Closed)` and `Client(Unexpected)` as `ClientSession::accept` tells them: nothing is written.
 /// - `Envelope(BadEnvelope)` where the MESSAGE carries no envelope: ACK is written.
 /// - `End`, as the endpoint tells it: ACK is written after `NotMine` and `NotSent`, nothing after `StoreFailed`, and

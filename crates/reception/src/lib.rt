@@ -1,10 +1,10 @@
 //! What a service does with one frame that came to it, and with the letters that it holds.
 //!
 //! A frame is taken in two halves. [`prepare`] needs no endpoint: it makes all replies that an answer may need at once,
-//! and finds room for them; `finish` of what it prepared writes what the endpoint's answer says. So want of memory
-//! leaves the frame waiting and the service as it was, and nothing is written that the store didn't answer for. Between
-//! the halves the endpoint is called, wherever it is: [`take_frame`] does all three over one that is at hand. [`drain`]
-//! takes the next letter that is held and may be handled now.
+//! and finds room for them; `finish` of what it prepared writes what the endpoint's answer says. So an allocation that
+//! fails leaves the frame waiting and the service as it was, and nothing is written that the store didn't answer for.
+//! Between the halves the endpoint is called, wherever it is: [`take_frame`] does all three over one that is at hand.
+//! [`drain`] takes the next letter that is held and may be handled now.
 //!
 //! ```rust
 //! pub fn a_connected_client_subscribes(alloc: Global) -> Result<bool, ReceptionFault> {

@@ -12,7 +12,7 @@ use stomp_frame::Frame;
 pub enum Prepared {
     /// Nothing: this became of it.
     Done(Taken),
-    /// To take in a letter.
+    /// To process a letter.
     Letter(PreparedLetter),
     /// To mark letters as settled.
     Settle(PreparedSettle),

@@ -67,6 +67,7 @@ fn take_connected(
             write(client, &text);
             Ok(Taken::Connected)
         }
+        // The client is connecting, and accepts CONNECTED then.
         _ => unreachable!(),
     }
 }
@@ -182,7 +183,7 @@ fn prepare_message(
 ///
 /// # Errors
 /// - `Client(Memory)`, `Envelope(Memory)`, and for a letter `Client(NumbersUsed)` where the last number of a
-///   transaction was given: nothing is written, and the frame is given back.
+///   transaction was given: nothing is written, and the frame is returned.
 /// - `Client(Closed)` and `Client(Unexpected)` as `ClientSession::accept` tells them: nothing is written.
 /// - `Envelope(BadEnvelope)` where the MESSAGE carries no envelope: ACK is written.
 pub fn prepare(
@@ -202,6 +203,7 @@ pub fn prepare(
         };
     }
     match client.accept(frame) {
+        // The CONNECTED that a client accepts was taken above.
         Ok(ClientEvent::Connected) => unreachable!(),
         Ok(ClientEvent::Receipt(number, _)) => Ok(Prepared::Done(Taken::Receipt(number))),
         Ok(ClientEvent::Error(text)) => Ok(Prepared::Done(Taken::Error(text))),

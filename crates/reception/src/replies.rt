@@ -39,6 +39,7 @@ impl Acknowledgements {
     {
         let ack = answer_text(alloc, Command::Ack, message)?;
         let nack = answer_text(alloc, Command::Nack, message)?;
+        // Room for either, and not for both: one of them is written at most.
         client.room(ack.len())?;
         client.room(nack.len())?;
         Ok(Acknowledgements { ack, nack })
@@ -51,8 +52,12 @@ impl Acknowledgements {
         ensures room { (room : ℕ) → HasRoom self.now room → length result.now ≤ room }
     {
         match fault {
+            // Never of use to this service: a redelivery would be refused again, without end.
             EndFault::NotMine | EndFault::NotSent => &self.ack,
+            // Whether it was processed isn't known, so nothing may say so: the broker redelivers it on a new
+            // connection.
             EndFault::StoreFailed => &[],
+            // Nothing was changed, and a later attempt may succeed: NACK asks for one.
             EndFault::Business(_)
             | EndFault::TooEarly
             | EndFault::Memory
@@ -71,7 +76,7 @@ pub(crate) struct LetterReplies {
 }
 
 impl LetterReplies {
-    /// Those of a letter that a MESSAGE brought, with room for each.
+    /// The replies to a letter that a MESSAGE brought, with room for each.
     pub(crate) fn make(
         alloc: Global,
         client: &mut ClientSession<u64>,

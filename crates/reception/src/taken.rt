@@ -9,9 +9,9 @@ pub enum Taken {
     Connected,
     /// The broker has the frame with this receipt number.
     Receipt(u64),
-    /// A letter was the next of its pair and was taken in: the position of its row in the journal, from 1.
+    /// A letter was the next of its pair and was processed: the position of its row in the journal, from 1.
     Handled(u64),
-    /// A letter came again: how far its pair was handled, which is settled again.
+    /// A letter was redelivered: how far its pair was handled, which is settled again.
     Repeated(u64),
     /// A letter came too early; one of its number is held.
     Held,
@@ -24,8 +24,8 @@ pub enum Taken {
 /// A held letter that was handled.
 #[derive(Debug, Drop)]
 pub struct Drained {
-    /// Its pair.
+    /// The pair of the letter.
     pub pair: Pair,
-    /// Its number.
+    /// The number of the letter.
     pub number: u64,
 }

@@ -32,6 +32,7 @@ fn add(text: &mut Vec<u8>, frame: &Frame<MAX_BODY>) -> Result<(), AllocError>
     frame.holds();
     match encode(frame, text) {
         Ok(()) => Ok(()),
+        // Every frame can be written, unless there is no memory.
         Err(_) => Err(AllocError),
     }
 }
@@ -46,7 +47,7 @@ fn text_of(alloc: Global, frame: &Frame<MAX_BODY>) -> Result<Vec<u8>, AllocError
     Ok(text)
 }
 
-/// The text of four frames, one behind the other.
+/// The text of four frames, one after the other.
 #[tactic(auto, using(crate::proofs::Spelling::no_text))]
 fn text_of_four(
     alloc: Global,
@@ -126,6 +127,8 @@ pub(crate) fn settling_text(
     ensures text { IfOk result (λ text. IsTextOf (settling message.now transaction pair.now number) text.items) }
     ensures fault { IfErr result IsWant }
 {
+    // One transaction: where the connection is cut amid these frames the broker does none of them, and redelivers the
+    // MESSAGE.
     let begin = transaction_frame(alloc, Command::Begin, transaction)?;
     let ack = answer_frame(alloc, Command::Ack, message, Some(transaction))?;
     let settle = settle_within(alloc, pair, number, transaction)?;
@@ -142,6 +145,7 @@ pub(crate) fn write(client: &mut ClientSession<u64>, text: &[u8])
 {
     match client.append(text) {
         Ok(()) => (),
+        // Its room was found before.
         Err(_) => unreachable!(),
     }
 }

@@ -31,6 +31,7 @@ pub none_upto : (marks : Pair → ℕ) (messages : Messages) (behind : Option Le
     → AllSent marks messages behind
 none_upto marks messages behind none = λ x up some. absurd (subst (λ (b : Option LetterPlace). IsUpto b x) none up)
 
+-- what was sent but for the news stays so for equal news, marks, rows and place
 pub same_but : {C : Type 0} (news news' : List (JournalRow C)) (r b : Relay) (ms ms' : Messages)
     (reach reach' : Option LetterPlace)
     → news' ≡ news → b.marks ≡ r.marks → ms' ≡ ms → reach' ≡ reach → SentBut news (marks_of r) ms reach
@@ -88,6 +89,7 @@ module _ (clean clean' : Type 0) (less : clean' → clean) (ms ms' : Messages) (
     );
   }
 
+-- a filling between equal states is a filling between these
 pub fills_to : {clean : Type 0} {ms : Messages} {limit : ℕ} {start old end new : SendState}
     {result : Result ℕ RelayFault} → start ≡ old
     → new ≡ end
@@ -98,6 +100,7 @@ fills_to {clean} {ms} {limit} {start} {old} {end} {new} {result} e g f =
 
 -- ---- the cursor behind a filling
 
+-- a cursor that is gone or where it was is so by an equal name
 pub was_behind : {a b r : Option LetterPlace} → a ≡ b → (b ≡ None) ⊎ (b ≡ r) → (a ≡ None) ⊎ (a ≡ r)
 was_behind same (inl none) = inl (same ∙ none)
 was_behind same (inr is) = inr (same ∙ is)

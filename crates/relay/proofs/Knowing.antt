@@ -248,6 +248,7 @@ one_sent m [] i l lt at low sent = absurd (omega (arith, lt))
 one_sent m (x ∷ xs) zero l lt at low sent = (subst (λ (y : Letter). y.number ≤ m y.pair) at low, tt)
 one_sent m (x ∷ xs) (suc i) l lt at low sent = (sent.0, one_sent m xs i l (omega (arith, lt)) at low sent.1)
 
+-- one more letter at or below its mark is one more that was sent
 pub counted_sent : (m : Pair → ℕ) (letters : List Letter) (n i : ℕ) (l : Letter) → i < length letters
     → l ≡ get_or letters i l
     → l.number ≤ m l.pair → n ≡ i
@@ -258,11 +259,13 @@ counted_sent m letters n i l lt at low e sent = (
       (rw add-one (one_sent m letters i l lt at low (subst (λ (k : ℕ). AreSent m (take k letters)) e sent))),
 )
 
+-- an order of numbers holds of equal ones
 pub is_low : (a b x y : ℕ) → a ≡ x → b ≡ y → b ≤ a → y ≤ x
 is_low a b x y e f h = omega (arith, e, f, h)
 
 -- ---- relays
 
+-- a relay without a cursor claims nothing, so it is right of any outbox
 pub knows_start : (r : Relay) → r.rows ≡ 0 → r.behind ≡ None → (rows : ℕ) (messages : Messages)
     → KnowsRows r rows messages
 knows_start r none start rows messages = (

@@ -111,15 +111,19 @@ module _ (limit : ℕ) (letters : List Letter) (old : SendState) where
               subst (λ (x : SendState). StopsSending x.client.receipts.last fault) (sym same) stops,
             )
 
+-- the test answers true where the first number is lower
 pub is_so : (a b x y : ℕ) → a ≡ x → b ≡ y → a < b → nat_lt x y ≡ true
 is_so a b x y e f h = ap (λ z. nat_lt z y) (sym e) ∙ ap (λ z. nat_lt a z) (sym f) ∙ lt-ltb a b h
 
+-- the test answers false where the first number isn't lower
 pub is_not : (a b x y : ℕ) → a ≡ x → b ≡ y → b ≤ a → nat_lt x y ≡ false
 is_not a b x y e f h = ap (λ z. nat_lt z y) (sym e) ∙ ap (λ z. nat_lt a z) (sym f) ∙ le-ltb a b h
 
+-- the letters from a place on are the one there and those after it
 pub letter_at : (letters : List Letter) (i : ℕ) (l : Letter) → i < length letters → l ≡ get_or letters i l
     → drop i letters ≡ l ∷ drop (i + 1) letters
 letter_at letters i l lt at = rw add-one (drop-cons letters i l lt ∙ ap (λ r. r ∷ drop (suc i) letters) (sym at))
 
+-- after the last letter there is none
 pub none_left : (letters : List Letter) (i : ℕ) → length letters ≤ i → drop i letters ≡ []
 none_left letters i h = drop_all i letters h

@@ -89,6 +89,7 @@ pub clear_none : {C : Type 0} (news : List (JournalRow C)) (behind : Option Lett
     → IsClear news behind place
 clear_none news behind place none = λ f from near. none f from
 
+-- a place before the first entity of the news is clear of what they sent
 pub clear_before : {C : Type 0} (news : List (JournalRow C)) (behind : Option LetterPlace) (place : LetterPlace) (e : Entity)
     → IsFirstFrom news behind (Some e) → entity_cmp place.pair.from e ≡ Less → IsClear news behind place
 clear_before news behind place e first less = λ f from near. first f from (upto_less f place.pair.from e near less)

@@ -75,6 +75,7 @@ sends_append xs ys a b c s t =
 abbrev made : (Pair → ℕ) → Client ℕ → SendState
 made marks client = record { marks = marks; client = client }
 
+-- a SEND with the next receipt number, and the mark of its pair, are what it is to send one letter
 pub sends_one : (l : Letter) (m m' : Pair → ℕ) (c c' : Client ℕ) (f : Content) (tag : ℕ)
     → m' ≡ set_mark l.pair l.number m
     → IsEnvelope (envelope.Letter l) → f ≡ send_of (envelope.Letter l) → tag ≡ l.number → c' ≡ receipted f tag c

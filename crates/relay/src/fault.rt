@@ -9,7 +9,7 @@ use thiserror::Error;
 /// Why a relay stopped. What it sent before stays sent.
 #[derive(Clone, Copy, Debug, PartialEq, Eq, Error)]
 pub enum RelayFault {
-    /// The client's session refused the SEND, or a growth of the relay was refused.
+    /// The client's session refused the SEND, or an allocation of the relay failed.
     #[error("{0}")]
     Client(ClientFault),
     /// The SEND couldn't be made.

@@ -16,7 +16,7 @@ pub fn each_deed_is_known<H: Handler>()
         → Knows H.service r y }
 {}
 
-/// A cursor that is right of each content that a stop may leave is right of what a reopening finds.
+/// A cursor that is right of each content that a crash may leave is right of what a reopening finds.
 pub fn a_reopening_is_known<H, K>()
 where
     H: Handler,

@@ -22,7 +22,7 @@ pub fn find(marks: &BTreeMap<Pair, u64>, pair: &Pair) -> u64
     }
 }
 
-/// How many of these letters stand before the first one that is above its pair's mark.
+/// How many of these letters are before the first one that is above its pair's mark.
 pub fn count_sent(marks: &BTreeMap<Pair, u64>, letters: &[Letter]) -> usize
     ensures within { result ≤ length letters.now }
     ensures sent { AreSent (mark_in marks.now) (take result letters.now) }
@@ -78,7 +78,7 @@ fn insert(marks: &mut BTreeMap<Pair, u64>, pair: Pair) -> Result<(), AllocError>
     }
 }
 
-/// Sets the mark of a pair that has a place. It takes no memory.
+/// Sets the mark of a pair that has a place. It allocates nothing.
 pub fn set(marks: &mut BTreeMap<Pair, u64>, pair: &Pair, number: Number)
     requires { IsSome (get pair_cmp marks.old pair.now) }
     ensures { (q : Pair) → get pair_cmp marks.new q ≡ cond (is_at (pair_cmp pair.now) q) (Some number)

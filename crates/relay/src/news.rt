@@ -64,7 +64,7 @@ fn place_before(alloc: Global, marks: &BTreeMap<Pair, u64>, entity: &Entity) -> 
         from: entity.copy(alloc).ok()?,
         to: Entity::read(alloc, FIRST).ok()?,
     };
-    // No pair of the entity stands before `bound`, which has the first receiver. It's tested below, not proved.
+    // No pair of the entity is before `bound`, which has the first receiver. It's tested below, not proved.
     let (last, mark) = marks.range(..&bound).next_back()?;
     if last.from.cmp(entity) != Ordering::Less {
         return None;
@@ -98,6 +98,7 @@ pub fn clear_place<C>(
 {
     match first_from(news, behind) {
         Some(entity) => match reach.pair.from.cmp(entity) {
+            // The place is before all that these entities may have sent.
             Ordering::Less => copy_place(alloc, reach),
             _ => place_before(alloc, marks, entity),
         },

@@ -39,7 +39,7 @@ const PAGE: usize = 64;
 const NEWS: usize = 256;
 
 impl Relay {
-    /// Sends what is due: before the cursor of what the journal's new rows sent, and behind it.
+    /// Sends what is due: before the cursor of what the journal's new rows sent, and after it.
     pub(crate) fn fill_connected<H, K>(
         &mut self,
         client: &mut ClientSession<u64>,
@@ -117,6 +117,7 @@ impl Relay {
         if self.rows == rows {
             return Ok(Vec::new(self.alloc));
         }
+        // Without a cursor all rows of the outbox are read anyway.
         if self.behind.is_none() {
             return Ok(Vec::new(self.alloc));
         }
@@ -160,12 +161,13 @@ impl Relay {
         let Some(place) = clear_place(self.alloc, &self.marks, news, &self.behind, reach) else {
             return;
         };
+        // The cursor is never moved back, nor beyond what was sent.
         if is_upto(&place, reach) && is_ahead(&place, &self.behind) {
             self.behind = Some(place);
         }
     }
 
-    /// Sends what is due behind the cursor, page by page, where up to a place all was sent but letters that these rows'
+    /// Sends what is due after the cursor, page by page, where up to a place all was sent but letters that these rows'
     /// entities sent.
     fn fill_pages<H, K>(
         &mut self,
@@ -213,7 +215,7 @@ impl Relay {
         Ok(count + sent)
     }
 
-    /// Sends what is due of a page of rows behind the cursor, moves the cursor, and answers how many were sent and
+    /// Sends what is due of a page of rows after the cursor, moves the cursor, and answers how many were sent and
     /// whether it goes on.
     fn fill_page<H, K>(
         &mut self,
@@ -243,6 +245,7 @@ impl Relay {
         let sent = match self.fill_letters(client, &rows, limit) {
             Ok(sent) => sent,
             Err(fault) => {
+                // The rows before the fault were sent. The cursor passes over them, so that they aren't read again.
                 self.go_behind_sent(rows);
                 return Err(fault);
             }
@@ -259,7 +262,7 @@ impl Relay {
         Ok((sent, true))
     }
 
-    /// Moves the cursor behind those of these rows that stand before the first one that is due.
+    /// Moves the cursor after those of these rows that are before the first one that is due.
     fn go_behind_sent(&mut self, mut rows: Vec<Letter>)
         ensures sent { (messages : Messages) (page : ℕ) → AreFirst messages self.old.behind page rows.items
             → AllSent (marks_of self.old) messages self.old.behind
@@ -272,7 +275,7 @@ impl Relay {
         self.go_behind(rows);
     }
 
-    /// Moves the cursor behind these rows, which were sent; of the last one's pair all up to its mark was.
+    /// Moves the cursor after these rows, which were sent; of the last one's pair all up to its mark was.
     fn go_behind(&mut self, mut rows: Vec<Letter>)
         ensures behind { StaysOrJumps (marks_of self.old) (place_behind self.old.behind rows.items) self.new.behind }
         ensures marks { self.new.marks ≡ self.old.marks }

@@ -23,13 +23,16 @@ use std::collections::BTreeMap;
 use stomp_client::{ClientFault, ClientSession, Stage};
 
 /// What was sent of each pair on a connection: contracts see the last number of each pair, 0 where nothing was sent.
-/// And a cursor: up to a place all that stood in the outbox was sent, when the journal had so many rows.
+/// And a cursor: up to a place all that was in the outbox was sent, when the journal had so many rows.
 pub struct Relay {
     pub(crate) alloc: Global,
     // The truth: what isn't above its pair's mark was sent, and isn't sent again.
+    // One place for all pairs wouldn't do: a later commit may bring a row before it.
     pub(crate) marks: BTreeMap<Pair, u64>,
     // A hint, which saves reads: without it a filling reads more rows, and sends the same.
+    // From the first row on a filling took 13.0 million instructions at 10,000 pairs.
     pub(crate) behind: Option<LetterPlace>,
+    // To ask for the journal's length reads nothing, and no row comes into the outbox without it rising.
     pub(crate) rows: u64,
 }
 
@@ -46,7 +49,7 @@ impl Drop for Relay {
 }
 
 impl Relay {
-    /// Nothing was sent. It takes no memory.
+    /// Nothing was sent. It allocates nothing.
     #[tactic(auto, using(crate::proofs::Knowing::knows_start))]
     pub fn new(alloc: Global) -> Relay
         ensures marks { (p : Pair) → marks_of result p ≡ 0 }
@@ -67,7 +70,7 @@ impl Relay {
         find(&self.marks, pair)
     }
 
-    /// Makes all rows of the outbox due again, as on a connection on which nothing was sent. It takes no memory.
+    /// Makes all rows of the outbox due again, as on a connection on which nothing was sent. It allocates nothing.
     #[tactic(auto, using(crate::proofs::Knowing::knows_start))]
     pub fn forget(&mut self)
         ensures marks { (p : Pair) → marks_of self.new p ≡ 0 }
@@ -79,7 +82,7 @@ impl Relay {
     }
 
     /// Lets the next filling look from the first row of the outbox on, for whichever service it is. What was sent stays
-    /// known, so that nothing is sent twice. It takes no memory.
+    /// known, so that nothing is sent twice. It allocates nothing.
     #[tactic(auto, using(crate::proofs::Knowing::knows_start))]
     pub fn look_anew(&mut self)
         ensures marks { self.new.marks ≡ self.old.marks }
@@ -104,12 +107,12 @@ impl Relay {
         ensures behind { self.new.behind ≡ self.old.behind }
         ensures rows { self.new.rows ≡ self.old.rows }
     {
-        // Tested before anything takes memory, so that no refused growth hides a fault that stays.
+        // Tested before anything allocates, so that no failed allocation hides a fault that stays.
         if client.receipts() == u64::MAX {
             return Err(RelayFault::Client(ClientFault::NumbersUsed));
         }
         let frame = letter_to_send(self.alloc, letter)?;
-        // A mark that found no place behind the SEND would have the letter sent again, so its place is made before.
+        // A mark that found no place after the SEND would have the letter sent again, so its place is made before.
         prepare(self.alloc, &mut self.marks, &letter.pair)?;
         client.send_with_receipt(frame, letter.number.get())?;
         set(&mut self.marks, &letter.pair, letter.number);
@@ -122,8 +125,8 @@ impl Relay {
     ///
     /// # Errors
     /// `Closed` after the end of the session, and nothing is sent. Where a letter is due: `NumbersUsed` where the last
-    /// receipt number is 2^64 - 1; else `Memory` of the client or of the envelope where a growth was refused. The
-    /// letters before that one were sent.
+    /// receipt number is 2^64 - 1; else `Memory` of the client or of the envelope if an allocation fails. The letters
+    /// before that one were sent.
     pub fn fill_rows(
         &mut self,
         client: &mut ClientSession<u64>,
@@ -145,7 +148,8 @@ impl Relay {
         }
     }
 
-    /// The same on a connected session.
+    /// Sends of these letters, on a connected session, those that are above what was sent of their pairs: see
+    /// `fill_rows`.
     pub(crate) fn fill_letters(
         &mut self,
         client: &mut ClientSession<u64>,
@@ -164,6 +168,7 @@ impl Relay {
                 return Ok(count);
             }
             if find(&self.marks, &letter.pair) >= letter.number.get() {
+                // Sent before on this connection: sent twice it would be a duplicate for its receiver.
                 continue;
             }
             match self.send_letter(client, letter) {
@@ -178,19 +183,19 @@ impl Relay {
     /// this connection, at most `limit`, and answers how many. Each SEND has the next receipt number, with the letter's
     /// number as its tag. Before CONNECTED it sends none, and the store isn't called.
     ///
-    /// Calls of the store: one `unsettled` or more, each for a page of rows. It begins behind the last row that was
-    /// sent. Where the journal has grown since the last filling, one `journal` comes first, and of what stands before
-    /// that row it looks at what the new rows' entities sent; where more than 256 rows came, it looks from the first
-    /// row on. What it sends is told where the cursor is right: of each content of this service's store that it went
-    /// over ([`each_deed_is_known`]).
+    /// Calls of the store: one `unsettled` or more, each for a page of rows. It begins after the last row that was
+    /// sent. Where the journal has grown since the last filling, one `journal` comes first, and of what is before that
+    /// row it looks at what the new rows' entities sent; where more than 256 rows came, it looks from the first row on.
+    /// What it sends is told where the cursor is right: of each content of this service's store that it went over
+    /// ([`each_deed_is_known`]).
     ///
     /// [`each_deed_is_known`]: crate::each_deed_is_known
     ///
     /// # Errors
     /// `Closed` after the end of the session: nothing is sent, and the store isn't called. `StoreFailed`, `Memory` and
     /// `Unusable` of the endpoint, as every read. Where a row is due: `NumbersUsed` where the last receipt number is
-    /// 2^64 - 1; else `Memory` of the client or of the envelope where a growth was refused. The rows that were sent are
-    /// the first that were due, and stay sent.
+    /// 2^64 - 1; else `Memory` of the client or of the envelope if an allocation fails. The rows that were sent are the
+    /// first that were due, and stay sent.
     pub fn fill<H, K>(
         &mut self,
         client: &mut ClientSession<u64>,

@@ -1,4 +1,4 @@
-//! What changes of a store's tables where a letter is held, and where one is taken in.
+//! What changes of a store's tables where a letter is held, and where one is processed.
 
 ghost use Rattle.std.specs.Prelude.{◌≡◌, IfOk, [], ◌∷◌};
 ghost use Rattle.keep.specs.declared.change.Change.TheVariants.{Handled, NotHeld, Held};
@@ -10,7 +10,7 @@ use std::alloc::{AllocError, Global};
 /// The change that holds a letter.
 ///
 /// # Errors
-/// Where a growth was refused.
+/// If an allocation fails.
 pub fn hold<S: Drop, C: Drop>(
     alloc: Global,
     letter: &Letter,
@@ -22,11 +22,11 @@ pub fn hold<S: Drop, C: Drop>(
     Ok(changes)
 }
 
-/// The changes of marks and held letters that go with a letter that is taken in: it is the last that was handled, and
+/// The changes of marks and held letters that go with a letter that is processed: it is the last that was handled, and
 /// isn't held any more.
 ///
 /// # Errors
-/// Where a growth was refused.
+/// If an allocation fails.
 pub fn take_in<S: Drop, C: Drop>(
     alloc: Global,
     letter: &Letter,
@@ -35,7 +35,9 @@ pub fn take_in<S: Drop, C: Drop>(
         ≡ Handled letter.now.pair letter.now.number ∷ NotHeld letter.now.pair letter.now.number ∷ []) }
 {
     let mut changes = Vec::new(alloc);
+    // The mark is set to the letter's own number, as it's the next of its pair.
     changes.push(Change::Handled(letter.pair.copy(alloc)?, letter.number))?;
+    // Whether it is held isn't read: taking away what isn't there changes nothing.
     changes.push(Change::NotHeld(letter.pair.copy(alloc)?, letter.number))?;
     Ok(changes)
 }

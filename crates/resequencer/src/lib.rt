@@ -1,7 +1,7 @@
 //! Letters that came too early: held until their turn comes.
 //!
 //! A store keeps the held letters of each pair, and how many letters of it were handled. The next to be handled has the
-//! number behind that; where it is held, its turn has come.
+//! number after that; where it is held, its turn has come.
 //!
 //! ```rust
 //! pub fn nothing_is_held_at_first(alloc: Global, pair: &Pair) -> Result<bool, KeepFault> {

@@ -10,11 +10,11 @@ use envelope::Letter;
 use keep::{Keep, KeepFault};
 use std::alloc::Global;
 
-/// The held letter behind the last that was handled of a pair, or `None` where it isn't held. One read of the store;
+/// The held letter after the last that was handled of a pair, or `None` where it isn't held. One read of the store;
 /// none where no number is left.
 ///
 /// # Errors
-/// `Failed` where the store failed; `Memory` where a growth was refused.
+/// `Failed` where the store failed; `Memory` if an allocation fails.
 pub fn next_held<K: Keep>(
     alloc: Global,
     keep: &mut K,
@@ -26,6 +26,7 @@ pub fn next_held<K: Keep>(
         (keep_end result) }
     ensures next { IfOk result (λ found. IsNextOf pair.now handled found) }
 {
+    // Saturating: after the last number there is none, and the sum is refused as a number.
     let Some(number) = Number::new(handled.saturating_add(1)) else {
         return Ok(None);
     };

@@ -16,6 +16,7 @@ use Rattle.service_workers.specs.Truth.{AreSentIn, Knows}
 use Rattle.service_workers.specs.declared.counts.Counts.{Counts}
 use Rattle.service_workers.proofs.Truth.{so_knows}
 
+-- the count that was set for a kind is the one that is read for it
 pub count_with : (kind : Kind) (n : ℕ) (c : Counts) → count_of kind (with_count kind n c) ≡ n
 count_with Order n c = refl
 count_with Stock n c = refl

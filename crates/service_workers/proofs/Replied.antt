@@ -48,6 +48,7 @@ want_replied f (fault.Client e) x is = tt
 want_replied f (fault.Envelope e) x is = tt
 want_replied f (fault.End e) x is = absurd is
 
+-- the reply to a letter by the endpoint's answer is one that its MESSAGE allows
 pub letter_replied : (f : Content) (l : Letter) (r : Result Ingested EndFault) (told : Result Taken ReceptionFault)
     → read_frame f ≡ Some (envelope.Letter l) → ToldOfLetter l r told → (x : Progress)
     → CarriedBy f (answer.Letter r) x → RepliedBy f told x
@@ -66,6 +67,7 @@ letter_replied f l (Ok ingested.Held) told reads is x h =
     subst (λ t. RepliedBy f t x) (sym is) (λ k at. h (envelope.Letter k) at)
 letter_replied f l (Err cause) told reads is x h = subst (λ t. RepliedBy f t x) (sym is) (λ e at. refused_at cause e x (h e at))
 
+-- the reply to a settle by the endpoint's answer is one that its MESSAGE allows
 pub settle_replied : (f : Content) (r : Result ℕ EndFault) (told : Result Taken ReceptionFault)
     → ToldOfSettle r told → (x : Progress) → CarriedBy f (answer.Settle r) x → RepliedBy f told x
 settle_replied f (Ok mark) told is x h =
@@ -88,18 +90,22 @@ unasked_replied f (taken.Repeated n) h x = absurd h
 unasked_replied f taken.Held h x = absurd h
 unasked_replied f (taken.Settled n) h x = absurd h
 
+-- what carries an answer carries an equal one
 pub carried_at : (f : Content) (a b : Answer) (x : Progress) → a ≡ b → CarriedBy f a x → CarriedBy f b x
 carried_at f a b x is h = subst (λ c. CarriedBy f c x) is h
 
+-- an answer to an equal frame by an equal client is an answer to this one
 pub answers_at : (kind : Kind) (f g : Content) (old c new : Client ℕ) (r : Result Taken ReceptionFault) → g ≡ f → c ≡ old
     → Answers kind g c new r → Finishes kind f old new r
 answers_at kind f g old c new r a b h =
     inl (subst (λ (x : Content × Client ℕ). Answers kind x.0 x.1 new r) (λ i. (a i, b i)) h)
 
+-- an answer to the letter that a MESSAGE carries is an answer to the MESSAGE
 pub its_letter : (f : Content) (a : Answer) (l : Letter) (r : Result Ingested EndFault) (told : Result Taken ReceptionFault)
     → a ≡ answer.Letter r → read_frame f ≡ Some (envelope.Letter l) → ToldOfLetter l r told → IsItsAnswer f a told
 its_letter f a l r told is reads h = subst (λ x. IsItsAnswer f x told) (sym is) (l, reads, h)
 
+-- an answer to the settle that a MESSAGE carries is an answer to the MESSAGE
 pub its_settle : (f : Content) (a : Answer) (p : Pair) (n : ℕ) (r : Result ℕ EndFault) (told : Result Taken ReceptionFault)
     → a ≡ answer.Settle r → read_frame f ≡ Some (envelope.Settle p n) → ToldOfSettle r told → IsItsAnswer f a told
 its_settle f a p n r told is reads h = subst (λ x. IsItsAnswer f x told) (sym is) (p, n, reads, h)

@@ -101,10 +101,12 @@ given_same : (o : Option Content) (old new : Channel) (r : Result (Option Conten
 given_same (Some f) old new r h = ap outgoing h.1
 given_same None old new r h = ap outgoing h.1
 
+-- to take the next frame writes nothing
 pub next_says_nothing : (old new : Channel) (r : Result (Option Content) FrameFault) → GivesNext old new r
     → outgoing new ≡ outgoing old
 next_says_nothing old new r h = given_same old.waiting old new r h
 
+-- to accept a frame writes nothing, so whatever has to hold of the written frames holds
 pub accepts_says : (P : List Content → Type 0) (f : Content) (old new : Client ℕ) (r : Result (ClientEvent ℕ) ClientFault)
     → Accepts f old new r
     → Says P old new
@@ -184,6 +186,7 @@ refuses_says mine refusal f done old new (Err client.Closed) is so h = same_says
 refuses_says mine refusal f done old new (Err client.Memory) is so h = same_says (IsOfSession mine) old new h.1
 refuses_says mine refusal f done old new (Err client.NumbersUsed) is so h = same_says (IsOfSession mine) old new h.1
 
+-- SUBSCRIBE is a frame of the session
 pub subscribes_say : (mine : Kind) (prefetch : ℕ) (old new : Client ℕ) (r : Result (Unit {0}) ClientFault)
     → WritesFrame (subscribe_frame_with (queue_of mine) prefetch) old new r
     → Says (IsOfSession mine) old new
@@ -192,6 +195,7 @@ subscribes_say mine prefetch old new r h =
     refuses_says mine (unready old.stage) f (λ _ c. c ≡ written f old) old new r (subscribes_with prefetch)
     (λ x c is. ap (λ (k : Client ℕ). k.out) {x = c} {y = written f old} is) h
 
+-- DISCONNECT is a frame of the session
 pub leaves_say : (mine : Kind) (old new : Client ℕ) (r : Result ℕ ClientFault) → DisconnectsWithReceipt old new r
     → Says (IsOfSession mine) old new
 leaves_say mine old new r h =
@@ -344,6 +348,7 @@ idle_says : (ls : List Letter) (answer r : Result ℕ RelayFault) (old new : Sen
 idle_says ls answer r old new h =
     says_nothing (λ block. Any (IsSendOf block) ls) old.client new.client (ap (λ (s : SendState). s.client.out) h.1)
 
+-- all that a filling writes are SENDs of the given letters
 pub fill_says : (s : Stage) (limit : ℕ) (ls : List Letter) (old new : SendState) (r : Result ℕ RelayFault)
     → IfSome (idle_answer s) (λ answer. (r ≡ answer) × (new ≡ old))
     → (s ≡ stage.Connected → FillsLetters limit ls old new r)

@@ -471,6 +471,7 @@ module _ {E S C : Type 0} (seen : E → Seen (Tables S C)) (service : Service S 
 
 -- ---- what MESSAGEs carry
 
+-- the first of some envelopes is among them
 pub first_contained : (es : List Envelope) (e : Envelope) → es ≡ e ∷ behind es → (f : Envelope) → Only e f → Contains es f
 first_contained es e is f same = subst (λ xs. Contains xs f) (sym is) (0, omega arith, sym same)
 
@@ -487,11 +488,13 @@ pub carried_here : (a : Content) (messages : List Content) (es : List Envelope) 
 carried_here a messages es h e (inl is) = inl is
 carried_here a messages es h e (inr at) = contained_at (a ∷ messages) es h e at.0 at.1 at.2
 
+-- what some MESSAGEs carry, these and more carry
 pub among_left : (xs ys : List Content) (e : Envelope) → CarriedAmong xs e → CarriedAmong (xs ++ ys) e
 among_left [] ys e h = absurd h
 among_left (x ∷ xs) ys e (inl h) = inl h
 among_left (x ∷ xs) ys e (inr h) = inr (among_left xs ys e h)
 
+-- what some MESSAGEs carry, these after others carry
 pub among_right : (xs ys : List Content) (e : Envelope) → CarriedAmong ys e → CarriedAmong (xs ++ ys) e
 among_right [] ys e h = h
 among_right (x ∷ xs) ys e h = inr (among_right xs ys e h)

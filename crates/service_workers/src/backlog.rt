@@ -53,7 +53,9 @@ impl Backlog {
     pub(crate) fn is_due(&self, rows: u64, settles: u64, changes: u64) -> bool {
         match self.left {
             Left::More => true,
+            // What was sent on a connection that was cut may be lost, so each change makes all of it due again.
             Left::Nothing => rows > self.rows || changes != self.changes,
+            // New rows don't help while the window is full: only a settle or another connection makes room.
             Left::Full => settles != self.settles || changes != self.changes,
         }
     }
@@ -68,6 +70,7 @@ impl Backlog {
             self.vain = Some(vain.saturating_add(1));
             return false;
         }
+        // Without a last walk the next one begins at the first letter.
         self.last = None;
         self.left = Left::More;
         true
@@ -80,6 +83,7 @@ impl Backlog {
 
     /// Since when new rows can be looked at, where the journal has more now and no connection has changed.
     fn moment(&self, rows: u64, changes: u64) -> Option<Moment> {
+        // Where a walk left something, older letters may be due too: news alone wouldn't do.
         let number = self.whole?;
         if rows <= self.rows || changes != self.changes {
             return None;
@@ -108,6 +112,7 @@ impl Backlog {
         self.rows = rows;
         self.settles = settles;
         self.left = Left::Nothing;
+        // News are a hint: from here on rests in vain are counted, until a walk looks at the whole outbox.
         self.vain = Some(0);
     }
 
@@ -132,6 +137,7 @@ impl Backlog {
 
     /// No connection is connected.
     pub(crate) fn end_unconnected(&mut self) {
+        // A connection that becomes connected is a change, which makes it due again.
         self.left = Left::Nothing;
         self.last = None;
     }
@@ -147,6 +153,7 @@ impl Backlog {
         let fresh = Walk::new(self.kind, number, self.rows, self.changes, self.settles);
         match self.last.take() {
             Some(mut walk) if walk.number == number && walk.changes == self.changes => {
+                // Asked before make_room, which lowers the count that it looks at.
                 let is_resumable = walk.is_resumable(self.settles);
                 walk.make_room(self.settles);
                 let total = walk.total;
@@ -181,6 +188,7 @@ impl Backlog {
 /// one's settles.
 #[derive(Drop)]
 pub(crate) struct Backlogs {
+    // With one window for all, letters to a warehouse that was away filled it, and billing got nothing either.
     pub order: Backlog,
     pub stock: Backlog,
     pub account: Backlog,
@@ -209,6 +217,7 @@ impl Backlogs {
 
     /// Counts a rest in vain, and answers whether the outbox is walked over from its first letter for it.
     pub(crate) fn count_vain(&mut self) -> bool {
+        // Each of the three has to count: `||` alone would pass over those after the first that is due.
         let order = self.order.count_vain();
         let stock = self.stock.count_vain();
         self.account.count_vain() || stock || order

@@ -8,13 +8,14 @@ use base::Kind;
 /// How many letters there are to receivers of each kind.
 #[derive(Clone, Copy, Debug, PartialEq, Eq)]
 pub(crate) struct Counts {
+    // A field for each kind: to count allocates nothing.
     order: usize,
     stock: usize,
     account: usize,
 }
 
 impl Counts {
-    /// None.
+    /// No letters to anyone.
     pub(crate) fn none() -> Counts
         ensures { result ≡ record { order = 0; stock = 0; account = 0 } }
     {

@@ -46,7 +46,7 @@ where
     pub tokens: Tokens<H, K>,
     /// What is left of the first connection.
     pub zero: Ended<L>,
-    /// And of the second one.
+    /// What is left of the second connection.
     pub one: Ended<L>,
 }
 

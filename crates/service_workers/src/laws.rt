@@ -40,7 +40,7 @@ where
     ensures { (came : List Content) → WrittenStands K.seen H.service (λ message. Any (λ m. m ≡ message) came) }
 {}
 
-/// So all stands that was put on a connection's link, from its first frame to its last.
+/// All that was put on a connection's link stands by the journal in the end, from its first frame to its last.
 pub fn what_connections_wrote_stands<L, H, K>()
 where
     L: Link + Drop,

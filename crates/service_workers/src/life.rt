@@ -71,6 +71,7 @@ where
 {
     let (conns, witness) = past.into_parts();
     let mut hand = hand;
+    // What `close` gives bears out all that the Hand has learned: here all that was written on the connections.
     hand.learn(&shared, witness);
     Life {
         endpoint: shared.close(rt, seats, hand, scout),

@@ -490,6 +490,7 @@ where
         let Some(conn) = &mut self.conn else {
             return Ok(None);
         };
+        // The witness first: the letters below are of the journal that the Scout has seen.
         let witness = scout.witness(shared);
         self.witness.learn(shared, witness);
         match conn.send(kind, letters) {
@@ -519,17 +520,20 @@ where
         ensures cut { IfErr result (λ _. self.new.is_there ≡ false) }
         ensures number { self.new.number ≡ self.old.number }
     {
+        // On another connection the MESSAGE's `ack` would name another delivery, or none.
         if read.number != self.number {
             return Ok(None);
         }
         let Some(conn) = &mut self.conn else {
             return Ok(None);
         };
+        // The witness first: the answer below speaks of what the Hand has seen.
         let witness = hand.witness(shared);
         self.witness.learn(shared, witness);
         match finish(alloc, conn, H::kind(), read, answer) {
             Ok(_) => Ok(None),
             Err(fault) if goes_on(fault) => Ok(Some(fault)),
+            // The letter may be handled already: the redelivered one is answered like any duplicate.
             Err(fault) => {
                 self.cut();
                 Err(Cut::Reception(fault))

@@ -55,7 +55,7 @@ where
     H: Handler,
     K: Keep<State = H::State, Command = H::Command> + Drop,
 {
-    /// None yet, where a life begins: the Hand has seen the endpoint that was found.
+    /// A list without connections, where a life begins: the Hand has seen the endpoint that was found.
     pub fn new(alloc: Global, shared: &Shared<H, K>, hand: &mut Hand<H, K>) -> Past<N, L, H, K>
         requires at { name_of shared.now ≡ N.lock }
         requires hand { IsHandOf shared.now hand.old }
@@ -88,6 +88,7 @@ where
             × (line.new ≡ record { is_there = false; link = None })) }
         ensures err { IfErr result (λ _. (self.new ≡ self.old) × (line.new ≡ line.old)) }
     {
+        // Room first: a connection that left its place must not be missing here.
         if self.was.reserve(1).is_err() {
             return Err(AllocError);
         }

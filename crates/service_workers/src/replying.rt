@@ -135,6 +135,7 @@ pub(crate) fn goes_on(fault: ReceptionFault) -> bool
     ensures { result ≡ is_answered fault }
 {
     match fault {
+        // Nothing was acknowledged, and no frame that speaks of the store may follow.
         ReceptionFault::End(EndFault::StoreFailed | EndFault::Unusable) => false,
         ReceptionFault::End(_) | ReceptionFault::Envelope(EnvelopeFault::BadEnvelope) => true,
         ReceptionFault::Envelope(EnvelopeFault::Memory)

@@ -24,6 +24,7 @@ where
     pub rt: &'a R,
     pub alloc: Global,
     pub shared: &'a Shared<H, K>,
+    // Each connection has its own lock, and no thread holds both.
     pub zero: &'a Mutex<RunLine<N, M, L, H, K>>,
     pub one: &'a Mutex<RunLine<N, M, L, H, K>>,
     pub signals: &'a Signals,

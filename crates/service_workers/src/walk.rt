@@ -62,7 +62,7 @@ fn is_to(letter: &Letter, kind: Kind) -> bool
     letter.pair.to.kind() == kind
 }
 
-/// Those of some letters that are to receivers of a kind, and the others, each in their order.
+/// Parts letters: those to receivers of a kind, and the others, each in their order.
 pub(crate) fn part(
     alloc: Global,
     kind: Kind,
@@ -107,6 +107,7 @@ impl Page {
             Some(letter) => Some(place_of(alloc, letter)?),
             None => None,
         };
+        // Letters to other kinds of receivers are for the walks of these.
         let (own, _) = part(alloc, kind, letters)?;
         Ok(Page { count, last, own })
     }
@@ -169,6 +170,7 @@ impl Walk {
     /// Whether it can be resumed where so many settles were taken: a full window stopped it, all letters before its next page
     /// were sent, and its count isn't estimated from more than 1,024 settles.
     pub(crate) fn is_resumable(&self, settles: u64) -> bool {
+        // When each settle began a walk from the first letter, 100,000 letters in a file cost some 0.2 s a walk.
         let taken = settles.saturating_sub(self.settles);
         self.total >= WINDOW && self.is_all && taken < WINDOW as u64
     }

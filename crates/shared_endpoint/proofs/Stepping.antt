@@ -45,6 +45,7 @@ IsQuiet (Ok r) deed = ⊤
 abbrev pub Says : {R C : Type 0} → ℕ → Result R EndFault → (Kept C → Deed C → Type 0) → Type 0
 Says {C = C} n result allowed = (x : Kept C) (deed : Deed C) → allowed x deed → IsDeedOf n deed × IsQuiet result deed
 
+-- a number equals itself
 pub same_number : (n : ℕ) → (n == n) ≡ true
 same_number n = grind (arith, nat_tests)
 

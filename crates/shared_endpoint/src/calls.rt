@@ -1,4 +1,4 @@
-//! The calls of the tokens: each takes the endpoint, does what it does for one thread, and gives it back.
+//! The calls of the tokens: each takes the endpoint, does what it does for one thread, and returns it.
 
 ghost use Rattle.std.specs.Prelude.{◌≡◌, ◌-◌, ℕ, length, Option, take, drop};
 ghost use Rattle.base.specs.declared.limits.TheConstants.{HELD_WINDOW};
@@ -35,12 +35,12 @@ where
     ghost use Rattle.shared_endpoint.specs.Keys.{told_seat, told_hand, told_scout, marks_raised, hand_raised, marks_read};
     ghost use Rattle.shared_endpoint.specs.Keys.{shown_hand};
 
-    /// Takes in a command of this seat, as `Endpoint::commit` does for one thread: the row that it adds is the last of
+    /// Processes a command of this seat, as `Endpoint::commit` does for one thread: the row that it adds is the last of
     /// the journal then.
     ///
     /// # Errors
     /// Those of `Endpoint::commit`. Behind `StoreFailed` each call of any token that comes to the service answers
-    /// `Unusable`, until `close` has given it out and it was opened again.
+    /// `Unusable`, until `close` has given it out and it was reopened.
     pub fn commit<R: Wait>(
         &self,
         rt: &R,
@@ -57,10 +57,12 @@ where
             (fault_in result) }
         ensures raised { marks_raised seat.new ≡ raised_after (marks_raised seat.old) (row_committed result) }
     {
+        // The lock is held over the whole transaction, with the sync of its disk.
         let mut boxed = self.lock.take(rt, &mut seat.key);
         let committed = boxed.endpoint.commit(alloc, seat.number, entity, command);
         let told = tells(&committed);
         self.give(rt, &mut seat.key, boxed, told);
+        // Raised after the lock is released, so that nobody waits for it: for a moment it's below the journal's length.
         self.raise(&mut seat.mark, row_committed(&committed));
         committed
     }
@@ -107,7 +109,7 @@ where
         length
     }
 
-    /// Takes in a letter, as `Endpoint::ingest` does for one thread.
+    /// Processes a letter, as `Endpoint::ingest` does for one thread.
     ///
     /// # Errors
     /// Those of `Endpoint::ingest`.
@@ -158,6 +160,7 @@ where
     {
         let mut boxed = self.lock.take(rt, &mut hand.key);
         let drained = boxed.endpoint.drain_held(alloc, pair);
+        // Read while the endpoint is held. The answer has the letter's number, not its row's position.
         let rows = boxed.rows_drained(&drained);
         let told = tells(&drained);
         self.give(rt, &mut hand.key, boxed, told);
@@ -193,8 +196,8 @@ where
         mark
     }
 
-    /// Takes in the first of these letters and settles, as many as can be taken in together, by one transaction: each as
-    /// `ingest` and `settle` take it in, one after another.
+    /// Processes the first of these letters and settles, as many as can be processed together, by one transaction: each
+    /// as `ingest` and `settle` take it in, one after another.
     ///
     /// # Errors
     /// `StoreFailed`, `Memory` and `Unusable`, and no other.
@@ -248,7 +251,7 @@ where
     }
 
     /// Looks at the service, and tells how many rows its journal has: `Endpoint::length`. So the Hand sees that journal, and
-    /// whether it bears out what was shown to the Hand. It takes no memory.
+    /// whether it bears out what was shown to the Hand. It allocates nothing.
     ///
     /// # Errors
     /// `Unusable`, and no other.
@@ -261,6 +264,7 @@ where
         ensures turn { Turns K.seen H.service hand_number (told_hand hand.old) (told_hand hand.new)
             (λ d e. (e ≡ d) × Counts K.seen d (λ t. length t.journal) result) (fault_in result) }
     {
+        // It allocates nothing, so that the Hand can see the journal in any case at the end of a run.
         let boxed = self.lock.take(rt, &mut hand.key);
         let looked = boxed.endpoint.length();
         let told = tells(&looked);

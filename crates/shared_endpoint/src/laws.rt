@@ -137,7 +137,7 @@ where
     ensures { TokensStayGood K.seen H.service }
 {}
 
-/// What was shown to the Hand is so of the journal that it has seen behind its next answer: that begins with each journal
+/// What was shown to the Hand is so of the journal that it has seen after its next answer: that begins with each journal
 /// that a witness knows, and no settled mark is lower than one of these.
 pub fn witnesses_are_borne_out<H, K>()
 where

@@ -20,6 +20,7 @@ where
     ghost use Rattle.shared_endpoint.specs.Lore.{later_same, later_join, since_same, since_join, ends_same};
     ghost use Rattle.shared_endpoint.specs.Lore.{ever_of, ever_join};
 
+    // Four relations between what the endpoint was and is. Below: each holds of a value and itself, and two steps join.
     ghost since = { Since K.seen H.service };
 
     ghost later = { IsLater K.seen };

@@ -45,6 +45,7 @@ fn last_handled(told: &[Grouped]) -> Option<u64>
     let mut last = None;
     for grouped in told {
         if let Grouped::Handled(position) = grouped {
+            // Rows are added in order: the last one has the highest position.
             last = Some(*position);
         }
     }
@@ -66,7 +67,7 @@ where
     H: Handler,
     K: Keep<State = H::State, Command = H::Command> + Drop,
 {
-    /// How many rows the journal has behind the taking in of a held letter, where one was taken in.
+    /// How many rows the journal has after a held letter was processed, where one was.
     pub(crate) fn rows_drained(&self, answer: &Result<Option<u64>, EndFault>) -> Option<u64>
         requires { IfOk answer.now (λ _. (K.seen self.now).usable ≡ true) }
         ensures { AreRowsDrained K.seen self.now answer.now result }

@@ -1,4 +1,4 @@
-//! Those who may use the endpoint, and who only know of it.
+//! The tokens by which threads use the endpoint, and the witnesses that only know of it.
 
 use crate::boxed::Boxed;
 use activities::Handler;
@@ -6,7 +6,7 @@ use keep::Keep;
 use marks::MarkSeat;
 use told_lock::Key;
 
-/// One of the sixteen from whom commands come.
+/// A seat: one of the sixteen tokens through which commands come.
 #[derive(Drop)]
 pub struct Seat<H, K>
 where
@@ -18,7 +18,7 @@ where
     pub(crate) mark: MarkSeat,
 }
 
-/// The one through whom letters and settles come.
+/// The Hand: the token through which letters and settles come.
 #[derive(Drop)]
 pub struct Hand<H, K>
 where
@@ -29,7 +29,7 @@ where
     pub(crate) mark: MarkSeat,
 }
 
-/// The one who reads what is to be sent.
+/// The Scout: the token that reads what is to be sent.
 #[derive(Drop)]
 pub struct Scout<H, K>
 where

@@ -27,7 +27,7 @@ where
         Witness { key: known }
     }
 
-    /// Learns what a witness knows: it is shown to the Hand, and each call behind this bears it out.
+    /// Learns what a witness knows: it is shown to the Hand, and each call after this bears it out.
     pub fn learn(&mut self, shared: &Shared<H, K>, witness: Witness<H, K>)
         requires hand { IsHandOf shared.now self.old }
         requires witness { IsWitnessOf shared.now witness }

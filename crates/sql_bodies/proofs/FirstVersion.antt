@@ -16,6 +16,7 @@ use Rattle.sql_bodies.specs.Reading.{written_so, IsExact}
 use Rattle.sql_bodies.proofs.Compact.{read-compact_text}
 use Rattle.sql_bodies.proofs.Written.{only_so, read_back, order_text, order_is_read}
 
+-- the text of version 1 is the compact JSON of its object
 pub first_text : (c : OrderCommand) → compact_text (first_order_data c) ≡ first_order_body c
 unfolding serde_json_on_literals
 first_text (Place (i ∷ []) account amount) = refl
@@ -23,6 +24,7 @@ first_text (Place [] account amount) = refl
 first_text (Place (i ∷ j ∷ is) account amount) = refl
 first_text CancelOrder = refl
 
+-- no number with a point is in an object of version 1
 pub first_is_plain : (c : OrderCommand) → has_float (first_order_data c) ≡ false
 first_is_plain (Place (i ∷ []) account amount) = refl
 first_is_plain (Place [] account amount) = refl
@@ -45,6 +47,7 @@ first_is_found (Place [] account amount) is = absurd is
 first_is_found (Place (i ∷ j ∷ rest) account amount) is = absurd is
 first_is_found CancelOrder is = refl
 
+-- in version 1 a body was read as a command just where it was that command's body
 pub first_orders_are_exact : IsExact IsFirstOrderCommand first_order_body read_first_order_command
 first_orders_are_exact = record {
   back = λ c is. read_back first_order_body first_order_data first_order_in c (first_text c) (first_is_read c is)
@@ -59,6 +62,7 @@ none_is_found : (lines : List Item) (account : List ℕ) (amount : ℕ) → IsOr
     → first_order_in (order_data (Place lines account amount)) ≡ None
 none_is_found lines account amount is = rw is.1 refl
 
+-- a placing in today's form is no body of version 1
 pub lines_are_refused : (lines : List Item) (account : List ℕ) (amount : ℕ) → IsOrderCommand (Place lines account amount)
     → read_first_order_command (order_body (Place lines account amount)) ≡ None
 lines_are_refused lines account amount is =

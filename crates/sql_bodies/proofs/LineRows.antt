@@ -134,11 +134,13 @@ each_account_line : (ls : List Line) → AreOrders ls → AllByRecursion IsRow l
 each_account_line [] all rows = tt
 each_account_line (l ∷ ls) all rows = (account_line_back l all.0 rows.0.0 rows.0.1, each_account_line ls all.1 rows.1)
 
+-- a stock's lines are read as they were written
 pub stock_lines_back : (ls : List Line) → AreLinesSound ls → AllByRecursion IsRow ls
     → steps (λ l. lines_with (stock_line_row l)) ls [] ≡ Some ls
 stock_lines_back ls sound rows =
     rows_back stock_line_row ls [] (each_stock_line ls sound.of_orders rows) ∙ lines_back ls sound
 
+-- an account's lines are read as they were written
 pub account_lines_back : (ls : List Line) → AreLinesSound ls → AllByRecursion IsRow ls
     → steps (λ l. lines_with (account_line_row l)) ls [] ≡ Some ls
 account_lines_back ls sound rows =

@@ -50,17 +50,21 @@ account_phase_back line.Refused = refl
 account_phase_back line.Done = refl
 account_phase_back line.Released = refl
 
+-- a status is read just from its own word
 pub status_read : (word : List ℕ) (result : Option Status) → IsWordReading status_word word result
     → result ≡ status_in word
 status_read word result is = word_read status_word statuses status_back word result is
 
+-- a phase is read just from its own word
 pub phase_read : (word : List ℕ) (result : Option Phase) → IsWordReading phase_word word result → result ≡ phase_in word
 phase_read word result is = word_read phase_word phases phase_back word result is
 
+-- a phase at a stock is read just from its own word
 pub stock_phase_read : (word : List ℕ) (result : Option LinePhase) → IsWordReading stock_line_word word result
     → result ≡ stock_phase_in word
 stock_phase_read word result is = word_read stock_line_word line_phases stock_phase_back word result is
 
+-- a phase at an account is read just from its own word
 pub account_phase_read : (word : List ℕ) (result : Option LinePhase) → IsWordReading account_line_word word result
     → result ≡ account_phase_in word
 account_phase_read word result is = word_read account_line_word line_phases account_phase_back word result is

@@ -71,10 +71,12 @@ reads_as body read c back result written = IfOk-weaker result _ _ (λ s same. ap
 
 -- ---- stocks and accounts
 
+-- the body of a stock's command is the compact JSON of its object
 pub stock_text : (c : StockCommand) → compact_text (stock_data c) ≡ stock_body c
 unfolding serde_json_on_literals
 stock_text (Receive n) = refl
 
+-- the body of an account's command is the compact JSON of its object
 pub account_text : (c : AccountCommand) → compact_text (account_data c) ≡ account_body c
 unfolding serde_json_on_literals
 account_text (SetLimit n) = refl
@@ -89,9 +91,11 @@ account_is_read : (c : AccountCommand) → IsAccountCommand c
 account_is_read (SetLimit n) is = read-compact_text (account_data (SetLimit n)) (IsNumber-decimal n is, (tt, tt))
     (omega arith) (rw (number_of-decimal n is) refl)
 
+-- no number with a point is in the object of a stock's command
 pub stock_is_plain : (c : StockCommand) → has_float (stock_data c) ≡ false
 stock_is_plain (Receive n) = refl
 
+-- no number with a point is in the object of an account's command
 pub account_is_plain : (c : AccountCommand) → has_float (account_data c) ≡ false
 account_is_plain (SetLimit n) = refl
 
@@ -101,10 +105,12 @@ stock_is_found (Receive n) = refl
 account_is_found : (c : AccountCommand) → account_in (account_data c) ≡ Some c
 account_is_found (SetLimit n) = refl
 
+-- a stock's command is read back from its body
 pub stock_reads_back : (c : StockCommand) → IsStockCommand c → read_stock_command (stock_body c) ≡ Some c
 stock_reads_back c is =
     read_back stock_body stock_data stock_in c (stock_text c) (stock_is_read c is) (stock_is_found c)
 
+-- an account's command is read back from its body
 pub account_reads_back : (c : AccountCommand) → IsAccountCommand c → read_account_command (account_body c) ≡ Some c
 account_reads_back c is =
     read_back account_body account_data account_in c (account_text c) (account_is_read c is) (account_is_found c)
@@ -159,6 +165,7 @@ lines_are_found (i ∷ is) all = rw (line_is_found i all.0, lines_are_found is a
 
 -- ---- orders
 
+-- the body of an order's command is the compact JSON of its object
 pub order_text : (c : OrderCommand) → compact_text (order_data c) ≡ order_body c
 unfolding serde_json_on_literals
 order_text (Place lines account amount) =
@@ -179,6 +186,7 @@ lines_are_plain : (is : List Item) → items_have_float (lines_data is) ≡ fals
 lines_are_plain [] = refl
 lines_are_plain (i ∷ is) = lines_are_plain is
 
+-- no number with a point is in the object of an order's command
 pub order_is_plain : (c : OrderCommand) → has_float (order_data c) ≡ false
 order_is_plain (Place lines account amount) = rw (lines_are_plain lines) refl
 order_is_plain CancelOrder = refl
@@ -187,6 +195,7 @@ order_is_found : (c : OrderCommand) → IsOrderCommand c → order_in (order_dat
 order_is_found (Place lines account amount) is = rw (is.1, lines_are_found lines is.2) refl
 order_is_found CancelOrder is = refl
 
+-- an order's command is read back from its body
 pub order_reads_back : (c : OrderCommand) → IsOrderCommand c → read_order_command (order_body c) ≡ Some c
 order_reads_back c is =
     read_back order_body order_data order_in c (order_text c) (order_is_read c is) (order_is_found c is)
@@ -196,11 +205,14 @@ order_writes_back text c e = only_so order_body text (option_and_then order_in (
 
 -- ---- each is exact
 
+-- a body is read as an order's command just where it is that command's body
 pub orders_are_exact : IsExact IsOrderCommand order_body read_order_command
 orders_are_exact = record { back = order_reads_back; only = order_writes_back }
 
+-- a body is read as a stock's command just where it is that command's body
 pub stocks_are_exact : IsExact IsStockCommand stock_body read_stock_command
 stocks_are_exact = record { back = stock_reads_back; only = stock_writes_back }
 
+-- a body is read as an account's command just where it is that command's body
 pub accounts_are_exact : IsExact IsAccountCommand account_body read_account_command
 accounts_are_exact = record { back = account_reads_back; only = account_writes_back }

@@ -50,6 +50,7 @@ impl CommandBody for AccountCommand {
             return Ok(None);
         };
         let command = AccountCommand::SetLimit(limit);
+        // Written again and compared: a further member, or another spelling of the object, is no command's.
         if account_text(alloc, &command)?.as_str() == body {
             Ok(Some(command))
         } else {

@@ -14,7 +14,7 @@ use std::alloc::{AllocError, Global};
 /// The entity that a text names, if it names one.
 ///
 /// # Errors
-/// Where a growth was refused.
+/// If an allocation fails.
 pub fn read_entity(alloc: Global, text: &str) -> Result<Option<Entity>, AllocError>
     ensures { IfOk result (λ found. found ≡ read_entity text.now) }
 {
@@ -29,7 +29,7 @@ pub fn read_entity(alloc: Global, text: &str) -> Result<Option<Entity>, AllocErr
 /// The message whose body this is, if it is one's.
 ///
 /// # Errors
-/// Where a growth was refused.
+/// If an allocation fails.
 pub fn read_message(alloc: Global, body: &str) -> Result<Option<Message>, AllocError>
     ensures { IfOk result (λ found. found ≡ read_message body.now) }
 {
@@ -81,7 +81,7 @@ fn message_from<C: CommandBody>(
 /// The input of these columns of a journal row; `None` where they are no input's.
 ///
 /// # Errors
-/// Where a growth was refused.
+/// If an allocation fails.
 pub fn read_input<C: CommandBody>(
     alloc: Global,
     seat: Option<u64>,
@@ -92,6 +92,7 @@ pub fn read_input<C: CommandBody>(
     ensures { IfOk result (λ found. found
         ≡ input_from C.read seat (option_map (λ s. s.now) sender.entry) number body.now) }
 {
+    // A command has a seat alone, a message a sender and a number: a row with any other columns isn't one of ours.
     match (seat, sender, number) {
         (Some(seat), None, None) => command_from(alloc, seat, body),
         (None, Some(sender), Some(number)) => message_from(alloc, sender, number, body),

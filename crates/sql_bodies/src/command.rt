@@ -15,7 +15,7 @@ pub trait CommandBody: Drop {
     /// The command as JSON, its keys sorted and without spaces.
     ///
     /// # Errors
-    /// Where a growth was refused.
+    /// If an allocation fails.
     fn body(&self, alloc: Global) -> Result<String, AllocError>
         ensures text { IfOk result (λ s. string_bytes s ≡ written self.now) }
         ensures reads { IfOk result (λ s. read (string_bytes s) ≡ Some self.now) };
@@ -23,7 +23,7 @@ pub trait CommandBody: Drop {
     /// The command whose body this is; `None` where it is no command's, as in another spelling of the same object.
     ///
     /// # Errors
-    /// Where a growth was refused.
+    /// If an allocation fails.
     fn of_body(alloc: Global, body: &str) -> Result<Option<Self>, AllocError>
         ensures { IfOk result (λ found. found ≡ read body.now) };
 }

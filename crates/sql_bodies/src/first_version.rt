@@ -77,7 +77,7 @@ fn first_order_of(alloc: Global, value: &Value) -> Result<Option<OrderCommand>, 
 /// as in another spelling of the same object or in today's form.
 ///
 /// # Errors
-/// Where a growth was refused.
+/// If an allocation fails.
 // `{"account":"ann","amount":500,"n":3,"op":"place","stock":"bolt"}` and `{"op":"cancel_order"}`.
 pub fn read_first_order_command(
     alloc: Global,
@@ -91,6 +91,7 @@ pub fn read_first_order_command(
     let Some(command) = first_order_of(alloc, &value)? else {
         return Ok(None);
     };
+    // Written again and compared: a further member, another spelling, and a body of today's form are refused.
     if first_order_text(alloc, &command)?.as_str() == body {
         Ok(Some(command))
     } else {

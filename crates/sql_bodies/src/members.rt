@@ -16,6 +16,7 @@ pub(crate) fn parsed(alloc: Global, text: &str) -> Result<Option<Value>, AllocEr
 {
     match Value::from_str(alloc, text) {
         Ok(value) => Ok(Some(value)),
+        // Out of memory says nothing of the text.
         Err(fault) if fault.is_memory() => Err(AllocError),
         Err(_) => Ok(None),
     }

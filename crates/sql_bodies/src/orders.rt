@@ -150,6 +150,7 @@ impl CommandBody for OrderCommand {
         let Some(command) = order_of(alloc, &value)? else {
             return Ok(None);
         };
+        // Written again and compared: a further member, or another spelling of the object, is no command's.
         if order_text(alloc, &command)?.as_str() == body {
             Ok(Some(command))
         } else {

@@ -54,7 +54,7 @@ fn account_phase_in(word: &str) -> Option<LinePhase>
 /// `None` where they are no partner's.
 ///
 /// # Errors
-/// Where a growth was refused.
+/// If an allocation fails.
 pub fn read_partner(
     alloc: Global,
     kind: Kind,
@@ -77,12 +77,12 @@ pub fn read_partner(
     Ok(Some(Partner::new(entity, number, phase)))
 }
 
-/// Puts a stock of an order behind the others, by the columns of its row: its number among the order's lines, its key,
+/// Puts a stock of an order after the others, by the columns of its row: its number among the order's lines, its key,
 /// how much it was asked for, and the word of its phase. Whether it did: not where these are no partner's, or the
 /// number isn't the next.
 ///
 /// # Errors
-/// Where a growth was refused; the stocks are as they were then.
+/// If an allocation fails; the stocks are as they were then.
 pub fn push_stock(
     alloc: Global,
     stocks: &mut Vec<Partner>,
@@ -95,6 +95,7 @@ pub fn push_stock(
         stocks.old.items stocks.new.items) }
     ensures err { OnErr result (stocks.new.items ≡ stocks.old.items) }
 {
+    // Lines are numbered from 1 without a gap: a row that is missing or doubled is no order's.
     if line.checked_sub(1) != Some(stocks.len() as u64) {
         return Ok(false);
     }
@@ -109,7 +110,7 @@ pub fn push_stock(
 /// status, and that of the account's phase; `None` where they are no order's.
 ///
 /// # Errors
-/// Where a growth was refused.
+/// If an allocation fails.
 pub fn read_order(
     alloc: Global,
     stocks: Vec<Partner>,
@@ -129,6 +130,7 @@ pub fn read_order(
     };
     let mut partners = stocks;
     partners.push(account)?;
+    // It refuses what no order is: without stocks, with one twice, or with more than eight.
     Ok(Order::from_parts(status, partners))
 }
 
@@ -154,6 +156,7 @@ fn put_line(
         return Ok(false);
     };
     let order = Entity::new(alloc, Kind::Order, &key)?;
+    // `insert` is for an order that has no line.
     if lines.find(&order).is_some() {
         return Ok(false);
     }
@@ -165,7 +168,7 @@ fn put_line(
 /// phase; whether it did: not where these are no line's, or the order has a line.
 ///
 /// # Errors
-/// Where a growth was refused; the lines are as they were then.
+/// If an allocation fails; the lines are as they were then.
 pub fn put_stock_line(
     alloc: Global,
     lines: &mut Lines,
@@ -184,7 +187,7 @@ pub fn put_stock_line(
 /// its phase; whether it did: not where these are no line's, or the order has a line.
 ///
 /// # Errors
-/// Where a growth was refused; the lines are as they were then.
+/// If an allocation fails; the lines are as they were then.
 pub fn put_account_line(
     alloc: Global,
     lines: &mut Lines,

@@ -50,6 +50,7 @@ impl CommandBody for StockCommand {
             return Ok(None);
         };
         let command = StockCommand::Receive(quantity);
+        // Written again and compared: a further member, or another spelling of the object, is no command's.
         if stock_text(alloc, &command)?.as_str() == body {
             Ok(Some(command))
         } else {

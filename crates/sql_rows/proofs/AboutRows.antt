@@ -47,6 +47,7 @@ insert_says Purchasing = (refl, (refl, refl))
 insert_says Warehouse = (refl, (refl, refl))
 insert_says Billing = (refl, (refl, refl))
 
+-- the write adds the row that names the service and the version
 pub adds : (service : Service) (name : List ℕ) (old new : State) (result : Result ℕ Error)
     → old.now.schema ≡ schema_of service → IsRising (old.now.trees (about_tree service))
     → ExecutesInside 0 insert (Text name ∷ []) old new result
@@ -114,6 +115,7 @@ front_of Purchasing P all = front P (common_tables ++ own_tables Purchasing) (ab
 front_of Warehouse P all = front P (common_tables ++ own_tables Warehouse) (about 13 ∷ []) all
 front_of Billing P all = front P (common_tables ++ own_tables Billing) (about 13 ∷ []) all
 
+-- with that row added to tables without rows, the tables of the service are made
 pub founds : (service : Service) (old new : State) (result : Result ℕ Error) → AreMade (tables_of service) old.now
     → ExecutesInside 0 insert (Text (name_of service) ∷ []) old new result → OnOk result (Founds service old new)
 founds service old new (Err e) made h = tt
@@ -140,6 +142,7 @@ founds service old new (Ok count) made h =
       shown = it.shown;
     }
 
+-- tables that are made, and then that row, are the tables of the service
 pub then_founds : {service : Service} {tables : List Table} {old mid new : State} → Makes tables old mid
     → Founds service mid new → Founds service old new
 then_founds a b = record { is_new = b.is_new; shown = then_shows a.shown b.shown }
@@ -152,6 +155,7 @@ select = codes "SELECT version, service FROM about ORDER BY one"
 abbrev pub versions : ℕ → Query
 versions tree = rows_of tree [] (col 1 2 ∷ col 1 3 ∷ []) (col 1 0 ∷ []) every
 
+-- the text asks for the version and the service of all rows of `about`
 pub select_asks : (service : Service) → Asks (schema_of service) select (versions (about_tree service))
     (codes "version" ∷ codes "service" ∷ [])
 unfolding understood everything
@@ -163,6 +167,7 @@ abbrev AboutShown : Service → State → List Row → Type 0
 AboutShown service old items = AreInOrder by_position None (λ x. column x 2 ∷ column x 3 ∷ [])
     (old.now.trees (about_tree service)) items
 
+-- the query shows the version and the service of the file
 pub reads : (service : Service) {X : Type 0} (items : X → List Row) (old new : State) (result : Result X Error)
     → old.now.schema ≡ schema_of service → IfOk result (λ v. ShownAs select [] old new (items v))
     → IfOk result (λ v. AboutShown service old (items v))

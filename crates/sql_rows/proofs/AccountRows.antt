@@ -44,6 +44,7 @@ puts_head_joined : (key : List ℕ) (limit_now : ℤ) (billed : ℤ) (reserved :
 unfolding first_key
 puts_head_joined key limit_now billed reserved id x = refl
 
+-- the write puts an account's numbers in the place of those that were there
 pub puts_head : (key : List ℕ) (limit_now : ℤ) (billed : ℤ) (reserved : ℤ) (old new : State) (result : Result ℕ Error)
     → old.now.schema ≡ billing → IsRising (old.now.trees 9)
     → ExecutesInside 0 replace_head (Text key ∷ Int limit_now ∷ Int billed ∷ Int reserved ∷ []) old new result
@@ -65,6 +66,7 @@ pub delete_head_says : Says billing delete_head (Delete 5 (record { lets = []; b
 unfolding understood everything
 delete_head_says = (refl, (refl, refl))
 
+-- the write takes the numbers of an account away, and no other account's
 pub takes_head : (key : List ℕ) (old new : State) (result : Result ℕ Error) → old.now.schema ≡ billing
     → IsRising (old.now.trees 9) → ExecutesInside 0 delete_head (Text key ∷ []) old new result
     → OnOk result (Edits 9 (IsCut (has_key (text_key key))) old new)
@@ -81,6 +83,7 @@ pub insert_line_says : Says billing insert_line
 unfolding understood everything
 insert_line_says = (refl, (refl, refl))
 
+-- the write adds the line of an order to an account
 pub adds_line : (account : List ℕ) (order : List ℕ) (n : ℤ) (phase : List ℕ) (old new : State)
     (result : Result ℕ Error) → old.now.schema ≡ billing → IsRising (old.now.trees 11)
     → ExecutesInside 0 insert_line (Text account ∷ Text order ∷ Int n ∷ Text phase ∷ []) old new result
@@ -99,6 +102,7 @@ pub delete_lines_says : Says billing delete_lines (Delete 6 (record { lets = [];
 unfolding understood everything
 delete_lines_says = (refl, (refl, refl))
 
+-- the write takes all lines of an account away, and no other account's
 pub takes_lines : (account : List ℕ) (old new : State) (result : Result ℕ Error) → old.now.schema ≡ billing
     → IsRising (old.now.trees 11) → ExecutesInside 0 delete_lines (Text account ∷ []) old new result
     → OnOk result (Edits 11 (IsCut (has_key (text_key account))) old new)
@@ -110,12 +114,14 @@ takes_lines account old new result has rising h =
 abbrev pub select_head : List ℕ
 select_head = codes "SELECT limit_now, billed, held FROM accounts WHERE key = ?1 ORDER BY key"
 
+-- the text asks for the numbers of the rows of an account's key
 pub select_head_asks : Asks billing select_head
     (rows_of 9 text_terms (col 1 2 ∷ col 1 3 ∷ col 1 4 ∷ []) (col 1 1 ∷ []) every)
     (codes "limit_now" ∷ codes "billed" ∷ codes "held" ∷ [])
 unfolding understood everything
 select_head_asks = ((refl, (refl, refl)), refl)
 
+-- the query shows the numbers of an account, if there is one
 pub reads_head : (key : List ℕ) {X : Type 0} (items : X → List Row) (old new : State) (result : Result X Error)
     → old.now.schema ≡ billing → IfOk result (λ v. ShownAs select_head (Text key ∷ []) old new (items v))
     → IfOk result (λ v. AreInOrder by_text None (λ x. column x 2 ∷ column x 3 ∷ column x 4 ∷ [])
@@ -129,12 +135,14 @@ reads_head key items old new result has h =
 abbrev pub select_lines : List ℕ
 select_lines = codes "SELECT order_key, n, phase FROM account_lines WHERE account = ?1 ORDER BY account, order_key"
 
+-- the text asks for the lines of an account, in order of their orders' keys
 pub select_lines_asks : Asks billing select_lines
     (rows_of 11 text_terms (col 1 2 ∷ col 1 3 ∷ col 1 4 ∷ []) (col 1 1 ∷ col 1 2 ∷ []) every)
     (codes "order_key" ∷ codes "n" ∷ codes "phase" ∷ [])
 unfolding understood everything
 select_lines_asks = ((refl, (refl, refl)), refl)
 
+-- the query shows the lines of an account, in order of their orders' keys
 pub reads_lines : (account : List ℕ) {X : Type 0} (items : X → List Row) (old new : State) (result : Result X Error)
     → old.now.schema ≡ billing → IfOk result (λ v. ShownAs select_lines (Text account ∷ []) old new (items v))
     → IfOk result (λ v. AreInOrder by_pair None (λ x. column x 2 ∷ column x 3 ∷ column x 4 ∷ [])
@@ -160,6 +168,7 @@ puts_line_joined : (account : List ℕ) (order : List ℕ) (n : ℤ) (phase : Li
 unfolding first_key
 puts_line_joined account order n phase id x = refl
 
+-- the write puts the line of an order in the place of the one that was there
 pub puts_line : (account : List ℕ) (order : List ℕ) (n : ℤ) (phase : List ℕ) (old new : State)
     (result : Result ℕ Error) → old.now.schema ≡ billing → IsRising (old.now.trees 11)
     → ExecutesInside 0 replace_line (Text account ∷ Text order ∷ Int n ∷ Text phase ∷ []) old new result
@@ -181,6 +190,7 @@ pub delete_line_says : Says billing delete_line (Delete 6 (record { lets = []; b
 unfolding understood everything
 delete_line_says = (refl, (refl, refl))
 
+-- the write takes the line of an order away, and no other line
 pub takes_line : (account : List ℕ) (order : List ℕ) (old new : State) (result : Result ℕ Error)
     → old.now.schema ≡ billing → IsRising (old.now.trees 11)
     → ExecutesInside 0 delete_line (Text account ∷ Text order ∷ []) old new result

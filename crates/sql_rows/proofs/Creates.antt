@@ -75,6 +75,7 @@ makes_one schema table sql says uncounted old new count has h =
       sound = w.sound;
     }
 
+-- a CREATE TABLE that succeeds adds its table after the others, without rows
 pub creates : (tables : List Table) (table : Table) (sql : List ℕ) → Defines (schema_with tables) sql table
     → schema_with (tables ++ table ∷ []) ≡ created (schema_with tables) table
     → lacks_sequence (created (schema_with tables) table) ≡ false → (old new : State) (result : Result ℕ Error)
@@ -108,10 +109,12 @@ then_shows a b = record {
   mode = b.mode;
 }
 
+-- tables made after others are tables made
 pub then_makes : {first second : List Table} {old mid new : State} → Makes first old mid → Makes second mid new
     → Makes second old new
 then_makes a b = record { made = b.made; sound = b.sound; shown = then_shows a.shown b.shown }
 
+-- two steps of one transaction are steps of it
 pub then_goes_on : {old mid new : State} → IsUnderWay old mid → IsUnderWay mid new → IsUnderWay old new
 then_goes_on {old} {mid} {new} a b = record {
   kept = λ clean.

@@ -17,12 +17,14 @@ made_of Purchasing = refl
 made_of Warehouse = refl
 made_of Billing = refl
 
+-- the schema of a service is that of its rows, with `about` after them
 pub about_next : (service : Service) → schema_with (tables_of service)
     ≡ created (schema_with (common_tables ++ own_tables service)) (about (about_tree service))
 about_next Purchasing = refl
 about_next Warehouse = refl
 about_next Billing = refl
 
+-- no table of the schema needs a counter of rowids
 pub about_uncounted : (service : Service)
     → lacks_sequence (created (schema_with (common_tables ++ own_tables service)) (about (about_tree service))) ≡ false
 about_uncounted Purchasing = refl
@@ -34,6 +36,7 @@ create_journal =
     codes "CREATE TABLE journal (pos INTEGER PRIMARY KEY, entity TEXT NOT NULL, seat INTEGER, sender TEXT, "
     ++ codes "number INTEGER, body TEXT NOT NULL) STRICT"
 
+-- the text defines the table `journal`, as the first one
 pub create_journal_defines : Defines (schema_with []) create_journal journal
 unfolding understood everything
 create_journal_defines = record { is = refl; whole = refl; plain = (refl, refl); defined = refl }
@@ -43,6 +46,7 @@ create_outbox =
     codes "CREATE TABLE outbox (sender TEXT NOT NULL, receiver TEXT NOT NULL, number INTEGER NOT NULL, "
     ++ codes "body TEXT NOT NULL, PRIMARY KEY (sender, receiver, number)) STRICT"
 
+-- the text defines the table `outbox`, after `journal`
 pub create_outbox_defines : Defines (schema_with (journal ∷ [])) create_outbox outbox
 unfolding understood everything
 create_outbox_defines = record { is = refl; whole = refl; plain = (refl, refl); defined = refl }
@@ -52,6 +56,7 @@ create_out_marks =
     codes "CREATE TABLE out_marks (sender TEXT NOT NULL, receiver TEXT NOT NULL, sent INTEGER NOT NULL, "
     ++ codes "settled INTEGER NOT NULL CHECK (settled <= sent), PRIMARY KEY (sender, receiver)) STRICT"
 
+-- the text defines the table `out_marks`, after `outbox`
 pub create_out_marks_defines : Defines (schema_with (journal ∷ outbox ∷ [])) create_out_marks out_marks
 unfolding understood everything
 create_out_marks_defines = record { is = refl; whole = refl; plain = (refl, refl); defined = refl }
@@ -61,6 +66,7 @@ create_in_marks =
     codes "CREATE TABLE in_marks (sender TEXT NOT NULL, receiver TEXT NOT NULL, handled INTEGER NOT NULL "
     ++ codes "CHECK (handled >= 0 AND handled <= 1099511627776), PRIMARY KEY (sender, receiver)) STRICT"
 
+-- the text defines the table `in_marks`, after `out_marks`
 pub create_in_marks_defines : Defines (schema_with (journal ∷ outbox ∷ out_marks ∷ [])) create_in_marks in_marks
 unfolding understood everything
 create_in_marks_defines = record { is = refl; whole = refl; plain = (refl, refl); defined = refl }
@@ -70,6 +76,7 @@ create_held =
     codes "CREATE TABLE held (sender TEXT NOT NULL, receiver TEXT NOT NULL, number INTEGER NOT NULL, "
     ++ codes "body TEXT NOT NULL, PRIMARY KEY (sender, receiver, number)) STRICT"
 
+-- the text defines the table `held`, after `in_marks`
 pub create_held_defines : Defines (schema_with (journal ∷ outbox ∷ out_marks ∷ in_marks ∷ [])) create_held held
 unfolding understood everything
 create_held_defines = record { is = refl; whole = refl; plain = (refl, refl); defined = refl }
@@ -79,6 +86,7 @@ create_order_heads =
     codes "CREATE TABLE order_heads (key TEXT NOT NULL, account TEXT NOT NULL, amount INTEGER NOT NULL, "
     ++ codes "status TEXT NOT NULL, account_phase TEXT NOT NULL, PRIMARY KEY (key)) STRICT"
 
+-- the text defines the table of orders' heads, after the common tables
 pub create_order_heads_defines : Defines (schema_with common_tables) create_order_heads order_heads
 unfolding understood everything
 create_order_heads_defines = record { is = refl; whole = refl; plain = (refl, refl); defined = refl }
@@ -89,6 +97,7 @@ create_order_lines =
     ++ codes "line INTEGER NOT NULL CHECK (line >= 1 AND line <= 8), stock TEXT NOT NULL, n INTEGER NOT NULL, "
     ++ codes "phase TEXT NOT NULL, PRIMARY KEY (order_key, line), UNIQUE (order_key, stock)) STRICT"
 
+-- the text defines the table of orders' lines, after that of their heads
 pub create_order_lines_defines : Defines (schema_with (common_tables ++ order_heads ∷ [])) create_order_lines
     order_lines
 unfolding understood everything
@@ -99,6 +108,7 @@ create_stocks =
     codes "CREATE TABLE stocks (key TEXT NOT NULL, on_hand INTEGER NOT NULL, held INTEGER NOT NULL, "
     ++ codes "shipped INTEGER NOT NULL, received INTEGER NOT NULL, PRIMARY KEY (key)) STRICT"
 
+-- the text defines the table of stocks, after the common tables
 pub create_stocks_defines : Defines (schema_with common_tables) create_stocks stocks
 unfolding understood everything
 create_stocks_defines = record { is = refl; whole = refl; plain = (refl, refl); defined = refl }
@@ -108,6 +118,7 @@ create_stock_lines =
     codes "CREATE TABLE stock_lines (stock TEXT NOT NULL REFERENCES stocks (key), order_key TEXT NOT NULL, "
     ++ codes "n INTEGER NOT NULL, phase TEXT NOT NULL, PRIMARY KEY (stock, order_key)) STRICT"
 
+-- the text defines the table of stocks' lines, after that of stocks
 pub create_stock_lines_defines : Defines (schema_with (common_tables ++ stocks ∷ [])) create_stock_lines stock_lines
 unfolding understood everything
 create_stock_lines_defines = record { is = refl; whole = refl; plain = (refl, refl); defined = refl }
@@ -117,6 +128,7 @@ create_accounts =
     codes "CREATE TABLE accounts (key TEXT NOT NULL, limit_now INTEGER NOT NULL, billed INTEGER NOT NULL, "
     ++ codes "held INTEGER NOT NULL, PRIMARY KEY (key)) STRICT"
 
+-- the text defines the table of accounts, after the common tables
 pub create_accounts_defines : Defines (schema_with common_tables) create_accounts accounts
 unfolding understood everything
 create_accounts_defines = record { is = refl; whole = refl; plain = (refl, refl); defined = refl }
@@ -126,6 +138,7 @@ create_account_lines =
     codes "CREATE TABLE account_lines (account TEXT NOT NULL REFERENCES accounts (key), order_key TEXT NOT NULL, "
     ++ codes "n INTEGER NOT NULL, phase TEXT NOT NULL, PRIMARY KEY (account, order_key)) STRICT"
 
+-- the text defines the table of accounts' lines, after that of accounts
 pub create_account_lines_defines : Defines (schema_with (common_tables ++ accounts ∷ [])) create_account_lines
     account_lines
 unfolding understood everything
@@ -136,6 +149,7 @@ create_about =
     codes "CREATE TABLE about (one INTEGER PRIMARY KEY CHECK (one = 1), version INTEGER NOT NULL, "
     ++ codes "service TEXT NOT NULL) STRICT"
 
+-- the text defines the table `about`, after all others
 pub create_about_defines : (service : Service)
     → Defines (schema_with (common_tables ++ own_tables service)) create_about (about (about_tree service))
 unfolding understood everything

@@ -27,10 +27,12 @@ create_orders =
     ++ codes "amount INTEGER NOT NULL, status TEXT NOT NULL, stock_phase TEXT NOT NULL, account_phase TEXT NOT NULL, "
     ++ codes "PRIMARY KEY (key)) STRICT"
 
+-- the text defines the table of orders that version 1 had, after the common tables
 pub create_orders_defines : Defines (schema_with common_tables) create_orders orders
 unfolding understood everything
 create_orders_defines = record { is = refl; whole = refl; plain = (refl, refl); defined = refl }
 
+-- the text defines the table `about` of version 1, after that of orders
 pub create_about_defines : Defines (schema_with (common_tables ++ orders ∷ [])) create_about (about 11)
 unfolding understood everything
 create_about_defines = record { is = refl; whole = refl; plain = (refl, refl); defined = refl }
@@ -41,6 +43,7 @@ made_first = refl
 
 -- ---- which service's tables they are
 
+-- over the schema of version 1 too the text asks for the version and the service
 pub select_about_asks : (service : Service)
     → Asks (first_schema_of service) select (versions (first_about_tree service))
     (codes "version" ∷ codes "service" ∷ [])
@@ -49,6 +52,7 @@ select_about_asks Purchasing = ((refl, (refl, refl)), refl)
 select_about_asks Warehouse = ((refl, (refl, refl)), refl)
 select_about_asks Billing = ((refl, (refl, refl)), refl)
 
+-- the query shows the version and the service of a file of version 1
 pub reads_about : (service : Service) {X : Type 0} (items : X → List Row) (old new : State) (result : Result X Error)
     → old.now.schema ≡ first_schema_of service → IfOk result (λ v. ShownAs select [] old new (items v))
     → IfOk result (λ v. AreInOrder by_position None (λ x. column x 2 ∷ column x 3 ∷ [])
@@ -77,12 +81,14 @@ abbrev all_orders : Query
 all_orders = rows_of 9 []
     (col 1 1 ∷ col 1 2 ∷ col 1 3 ∷ col 1 4 ∷ col 1 5 ∷ col 1 6 ∷ col 1 7 ∷ col 1 8 ∷ []) (col 1 1 ∷ []) every
 
+-- the text asks for all orders of version 1, in order of their keys
 pub select_orders_asks : Asks first_purchasing select_orders all_orders
     (codes "key" ∷ codes "stock" ∷ codes "n" ∷ codes "account" ∷ codes "amount" ∷ codes "status"
     ∷ codes "stock_phase" ∷ codes "account_phase" ∷ [])
 unfolding understood everything
 select_orders_asks = ((refl, (refl, refl)), refl)
 
+-- the query shows all orders of version 1, in order of their keys
 pub reads_orders : {X : Type 0} (items : X → List Row) (old new : State) (result : Result X Error)
     → old.now.schema ≡ first_purchasing → IfOk result (λ v. ShownAs select_orders [] old new (items v))
     → IfOk result (λ v. AreInOrder by_text None (λ x. column x 1 ∷ column x 2 ∷ column x 3 ∷ column x 4 ∷ column x 5

@@ -90,6 +90,7 @@ drop_about_says : Says first_purchasing drop_about (DropTable 6)
 unfolding understood everything
 drop_about_says = (refl, (refl, refl))
 
+-- the drop leaves all tables but `about` as they were
 pub drops_about : (old new : State) (result : Result ℕ Error) → old.now.schema ≡ first_purchasing
     → ExecutesInside 0 drop_about [] old new result → OnOk result (Rebuilds (common_tables ++ orders ∷ []) [] old new)
 drops_about = drops first_purchasing 6 (about 11) refl refl (common_tables ++ orders ∷ []) refl refl drop_about
@@ -102,6 +103,7 @@ drop_orders_says : Says (schema_with (common_tables ++ orders ∷ [])) drop_orde
 unfolding understood everything
 drop_orders_says = (refl, (refl, refl))
 
+-- the drop leaves the common tables as they were
 pub drops_orders : (old new : State) (result : Result ℕ Error)
     → old.now.schema ≡ schema_with (common_tables ++ orders ∷ [])
     → ExecutesInside 0 drop_orders [] old new result → OnOk result (Rebuilds common_tables [] old new)
@@ -126,11 +128,13 @@ rebuilds kept table sql says next those at uncounted old new (Ok count) has h =
       shown = h.1;
     }
 
+-- the table of orders' heads comes after the common tables, whose rows stay
 pub rebuilds_heads : (old new : State) (result : Result ℕ Error) → old.now.schema ≡ schema_with common_tables
     → ExecutesInside 0 create_order_heads [] old new result
     → OnOk result (Rebuilds common_tables (order_heads ∷ []) old new)
 rebuilds_heads = rebuilds common_tables order_heads create_order_heads create_order_heads_defines refl refl refl refl
 
+-- the table of orders' lines comes after that of their heads, and all rows stay
 pub rebuilds_lines : (old new : State) (result : Result ℕ Error)
     → old.now.schema ≡ schema_with (common_tables ++ order_heads ∷ [])
     → ExecutesInside 0 create_order_lines [] old new result
@@ -138,6 +142,7 @@ pub rebuilds_lines : (old new : State) (result : Result ℕ Error)
 rebuilds_lines = rebuilds (common_tables ++ order_heads ∷ []) order_lines create_order_lines create_order_lines_defines
     refl refl refl refl
 
+-- the table `about` comes after all others, and all rows stay
 pub rebuilds_about : (old new : State) (result : Result ℕ Error)
     → old.now.schema ≡ schema_with (common_tables ++ order_heads ∷ order_lines ∷ [])
     → ExecutesInside 0 create_about [] old new result
@@ -237,6 +242,7 @@ delete_about_says Purchasing = (refl, (refl, refl))
 delete_about_says Warehouse = (refl, (refl, refl))
 delete_about_says Billing = (refl, (refl, refl))
 
+-- the delete empties the table `about` alone
 pub forgets : (service : Service) (old new : State) (result : Result ℕ Error) → old.now.schema ≡ schema_of service
     → IsRising (old.now.trees (about_tree service)) → ExecutesInside 0 delete_about [] old new result
     → OnOk result (Edits (about_tree service) (IsCut (λ _. true)) old new)
@@ -280,6 +286,7 @@ then_told service {old} {mid} {new} a b =
       shown = then_shows a.shown b.shown;
     }
 
+-- an emptied `about` with the row of version 2 names that version and the service
 pub tells_anew : (service : Service) (old mid new : State) (result : Result ℕ Error)
     → Edits (about_tree service) (IsCut (λ _. true)) old mid
     → OnOk result (Edits (about_tree service) (Adds (Null ∷ Int (pos 2) ∷ Text (name_of service) ∷ [])) mid new)

@@ -60,6 +60,7 @@ puts_joined Purchasing sender receiver number body id x = refl
 puts_joined Warehouse sender receiver number body id x = refl
 puts_joined Billing sender receiver number body id x = refl
 
+-- the write puts a held letter in the place of one with its number
 pub puts : (sender : List ℕ) (receiver : List ℕ) (number : ℤ) (body : List ℕ) (old new : State)
     (result : Result ℕ Error) → IsService old.now.schema → IsRising (old.now.trees 7)
     → ExecutesInside 0 replace (letter_cells sender receiver number body) old new result
@@ -84,6 +85,7 @@ delete_says Purchasing = (refl, (refl, refl))
 delete_says Warehouse = (refl, (refl, refl))
 delete_says Billing = (refl, (refl, refl))
 
+-- the write takes the held letter of a pair and a number away, and no other
 pub takes : (sender : List ℕ) (receiver : List ℕ) (number : ℤ) (old new : State) (result : Result ℕ Error)
     → IsService old.now.schema → IsRising (old.now.trees 7)
     → ExecutesInside 0 delete (place_cells sender receiver number) old new result
@@ -99,6 +101,7 @@ select =
     codes "SELECT body FROM held WHERE sender = ?1 AND receiver = ?2 AND number = ?3 "
     ++ codes "ORDER BY sender, receiver, number"
 
+-- the text asks for the body of the rows of a pair and a number
 pub select_asks : (service : Service) → Asks (schema_of service) select
     (rows_of 7 place_terms (col 1 4 ∷ []) (col 1 1 ∷ col 1 2 ∷ col 1 3 ∷ []) every) (codes "body" ∷ [])
 unfolding understood everything
@@ -106,6 +109,7 @@ select_asks Purchasing = ((refl, (refl, refl)), refl)
 select_asks Warehouse = ((refl, (refl, refl)), refl)
 select_asks Billing = ((refl, (refl, refl)), refl)
 
+-- the query shows the body of the held letter, if it is held
 pub reads : (sender : List ℕ) (receiver : List ℕ) (number : ℤ) {X : Type 0} (items : X → List Row) (old new : State)
     (result : Result X Error) → IsService old.now.schema
     → IfOk result (λ v. ShownAs select (place_cells sender receiver number) old new (items v))
@@ -133,6 +137,7 @@ select_drainable =
     ++ codes "LEFT JOIN in_marks ON held.sender = in_marks.sender AND held.receiver = in_marks.receiver "
     ++ codes "WHERE held.number = coalesce(in_marks.handled, 0) + 1 ORDER BY held.sender, held.receiver LIMIT 1"
 
+-- the text asks for the pairs whose next letter is held, the first of them
 pub select_drainable_asks : (service : Service)
     → Asks (schema_of service) select_drainable (drainable) (codes "sender" ∷ codes "receiver" ∷ [])
 unfolding understood everything
@@ -152,6 +157,7 @@ flat_map_map : {X Y Z : Type 0} (g : Y → Z) (f : X → List Y) (k : X → List
     → ((x : X) → k x ≡ map g (f x)) → flat_map k xs ≡ map g (flat_map f xs)
 flat_map_map g f k xs is = (λ i. flat_map (λ x. is x i) xs) ∙ sym (map-flat_map g f xs)
 
+-- the query shows the first pair whose next letter is held, if there is one
 pub reads_drainable : {X : Type 0} (items : X → List Row) (old new : State) (result : Result X Error)
     → IsService old.now.schema → IfOk result (λ v. ShownAs select_drainable [] old new (items v))
     → IfOk result (λ v. AreInOrder (λ a b. by_pair a.0 b.0) (Some 1) (λ x. column x.0 1 ∷ column x.0 2 ∷ [])

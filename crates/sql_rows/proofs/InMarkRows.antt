@@ -53,6 +53,7 @@ puts_joined Purchasing sender receiver handled id x = refl
 puts_joined Warehouse sender receiver handled id x = refl
 puts_joined Billing sender receiver handled id x = refl
 
+-- the write puts the handled mark of a pair in the place of the one that was there
 pub puts : (sender : List ℕ) (receiver : List ℕ) (handled : ℤ) (old new : State) (result : Result ℕ Error)
     → IsService old.now.schema → IsRising (old.now.trees 5)
     → ExecutesInside 0 replace (place_cells sender receiver handled) old new result
@@ -69,6 +70,7 @@ puts sender receiver handled old new result it rising h =
 abbrev pub select : List ℕ
 select = codes "SELECT handled FROM in_marks WHERE sender = ?1 AND receiver = ?2 ORDER BY sender, receiver"
 
+-- the text asks for `handled` of the rows of a pair
 pub select_asks : (service : Service) → Asks (schema_of service) select
     (rows_of 5 pair_terms (col 1 3 ∷ []) (col 1 1 ∷ col 1 2 ∷ []) every) (codes "handled" ∷ [])
 unfolding understood everything
@@ -76,6 +78,7 @@ select_asks Purchasing = ((refl, (refl, refl)), refl)
 select_asks Warehouse = ((refl, (refl, refl)), refl)
 select_asks Billing = ((refl, (refl, refl)), refl)
 
+-- the query shows the handled mark of the pair, if it has one
 pub reads : (sender : List ℕ) (receiver : List ℕ) {X : Type 0} (items : X → List Row) (old new : State)
     (result : Result X Error) → IsService old.now.schema
     → IfOk result (λ v. ShownAs select (pair_cells sender receiver) old new (items v))

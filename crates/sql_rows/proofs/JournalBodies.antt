@@ -142,6 +142,7 @@ typed_in schema it db sound r h =
     (sound.obeys.rules Datatype) in
     one_of _ _ (all_has (λ row. passes Datatype schema db journal row ≡ true) (db 0) r each.0 h)
 
+-- the write changes the body of the row at a position, and nothing else
 pub rebodies : (position : ℤ) (body : List ℕ) (old new : State) (result : Result ℕ Error) → IsService old.now.schema
     → IsRising (old.now.trees 0) → IsDatabase old.now
     → ExecutesInside 0 update_body (Int position ∷ Text body ∷ []) old new result

@@ -43,6 +43,7 @@ insert_command_says Purchasing = (refl, (refl, refl))
 insert_command_says Warehouse = (refl, (refl, refl))
 insert_command_says Billing = (refl, (refl, refl))
 
+-- the write adds a row of a command at the position after the last
 pub adds_command : (entity : List ℕ) (seat : ℤ) (body : List ℕ) (old new : State) (result : Result ℕ Error)
     → IsService old.now.schema → IsRising (old.now.trees 0)
     → ExecutesInside 0 insert_command (Text entity ∷ Int seat ∷ Text body ∷ []) old new result
@@ -65,6 +66,7 @@ insert_message_says Purchasing = (refl, (refl, refl))
 insert_message_says Warehouse = (refl, (refl, refl))
 insert_message_says Billing = (refl, (refl, refl))
 
+-- the write adds a row of a message at the position after the last
 pub adds_message : (entity : List ℕ) (sender : List ℕ) (number : ℤ) (body : List ℕ) (old new : State)
     (result : Result ℕ Error) → IsService old.now.schema → IsRising (old.now.trees 0)
     → ExecutesInside 0 insert_message (Text entity ∷ Text sender ∷ Int number ∷ Text body ∷ []) old new result
@@ -81,6 +83,7 @@ abbrev pub select_from : List ℕ
 select_from =
     codes "SELECT pos, entity, seat, sender, number, body FROM journal WHERE pos >= ?1 ORDER BY pos LIMIT ?2"
 
+-- the text asks for the rows from a position on, in order
 pub select_from_asks : (service : Service)
     → Asks (schema_of service) select_from (rows_of 0 from_terms
     (col 1 0 ∷ col 1 2 ∷ col 1 3 ∷ col 1 4 ∷ col 1 5 ∷ col 1 6 ∷ []) (col 1 0 ∷ []) (col 0 1))
@@ -90,6 +93,7 @@ select_from_asks Purchasing = ((refl, (refl, refl)), refl)
 select_from_asks Warehouse = ((refl, (refl, refl)), refl)
 select_from_asks Billing = ((refl, (refl, refl)), refl)
 
+-- the query shows the rows from a position on, in order, up to the limit
 pub reads_from : (from : ℤ) (limit : ℤ) {X : Type 0} (items : X → List Row) (old new : State) (result : Result X Error)
     → IsService old.now.schema → IfOk result (λ v. ShownAs select_from (Int from ∷ Int limit ∷ []) old new (items v))
     → IfOk result (λ v. AreInOrder by_position (as_count (Int limit)) shown_entry
@@ -104,6 +108,7 @@ reads_from from limit items old new result it h =
 abbrev pub select_last : List ℕ
 select_last = codes "SELECT pos FROM journal ORDER BY pos DESC LIMIT 1"
 
+-- the text asks for the last position
 pub select_last_asks : (service : Service)
     → Asks (schema_of service) select_last (record (rows_of 0 [] (col 1 0 ∷ []) [] (lit (Int (pos 1))))
     { order = (col 1 0, down) ∷ [] }) (codes "pos" ∷ [])
@@ -112,6 +117,7 @@ select_last_asks Purchasing = ((refl, (refl, refl)), refl)
 select_last_asks Warehouse = ((refl, (refl, refl)), refl)
 select_last_asks Billing = ((refl, (refl, refl)), refl)
 
+-- the query shows the last position, if there is a row
 pub reads_last : {X : Type 0} (items : X → List Row) (old new : State) (result : Result X Error)
     → IsService old.now.schema → IfOk result (λ v. ShownAs select_last [] old new (items v))
     → IfOk result (λ v. AreInOrder by_position_down (Some 1) (λ x. column x 0 ∷ []) (old.now.trees 0) (items v))
@@ -124,6 +130,7 @@ reads_last items old new result it h =
 abbrev pub select_count : List ℕ
 select_count = codes "SELECT count(*) FROM journal"
 
+-- the text asks for the number of rows
 pub select_count_asks : (service : Service)
     → Asks (schema_of service) select_count (count_of 0 []) (codes "count(*)" ∷ [])
 unfolding understood everything
@@ -131,6 +138,7 @@ select_count_asks Purchasing = ((refl, (refl, refl)), refl)
 select_count_asks Warehouse = ((refl, (refl, refl)), refl)
 select_count_asks Billing = ((refl, (refl, refl)), refl)
 
+-- the query shows the number of rows
 pub reads_count : {X : Type 0} (items : X → List Row) (old new : State) (result : Result X Error)
     → IsService old.now.schema → IfOk result (λ v. ShownAs select_count [] old new (items v))
     → IfOk result (λ v. items v ≡ (count (length (old.now.trees 0)) ∷ []) ∷ [])
@@ -141,6 +149,7 @@ reads_count items old new result it h =
 abbrev pub select_within : List ℕ
 select_within = codes "SELECT count(*) FROM journal WHERE pos >= ?1 AND pos <= ?2"
 
+-- the text asks for the number of rows between two positions
 pub select_within_asks : (service : Service)
     → Asks (schema_of service) select_within (count_of 0 within_terms) (codes "count(*)" ∷ [])
 unfolding understood everything
@@ -148,6 +157,7 @@ select_within_asks Purchasing = ((refl, (refl, refl)), refl)
 select_within_asks Warehouse = ((refl, (refl, refl)), refl)
 select_within_asks Billing = ((refl, (refl, refl)), refl)
 
+-- the query shows the number of rows between two positions
 pub reads_within : (first last : ℤ) {X : Type 0} (items : X → List Row) (old new : State) (result : Result X Error)
     → IsService old.now.schema
     → IfOk result (λ v. ShownAs select_within (Int first ∷ Int last ∷ []) old new (items v))

@@ -46,6 +46,7 @@ puts_head_joined : (key : List ℕ) (account : List ℕ) (amount : ℤ) (status 
 unfolding first_key
 puts_head_joined key account amount status account_phase id x = refl
 
+-- the write puts an order's head in the place of the one that was there
 pub puts_head : (key : List ℕ) (account : List ℕ) (amount : ℤ) (status : List ℕ) (account_phase : List ℕ)
     (old new : State) (result : Result ℕ Error) → old.now.schema ≡ purchasing → IsRising (old.now.trees 9)
     → ExecutesInside 0 replace_head (Text key ∷ Text account ∷ Int amount ∷ Text status ∷ Text account_phase ∷ []) old
@@ -69,6 +70,7 @@ pub delete_head_says : Says purchasing delete_head (Delete 5 (record { lets = []
 unfolding understood everything
 delete_head_says = (refl, (refl, refl))
 
+-- the write takes the head of an order away, and no other order's
 pub takes_head : (key : List ℕ) (old new : State) (result : Result ℕ Error) → old.now.schema ≡ purchasing
     → IsRising (old.now.trees 9) → ExecutesInside 0 delete_head (Text key ∷ []) old new result
     → OnOk result (Edits 9 (IsCut (has_key (text_key key))) old new)
@@ -85,6 +87,7 @@ pub insert_line_says : Says purchasing insert_line
 unfolding understood everything
 insert_line_says = (refl, (refl, refl))
 
+-- the write adds a line to an order
 pub adds_line : (order : List ℕ) (line : ℤ) (stock : List ℕ) (n : ℤ) (phase : List ℕ) (old new : State)
     (result : Result ℕ Error) → old.now.schema ≡ purchasing → IsRising (old.now.trees 11)
     → ExecutesInside 0 insert_line (Text order ∷ Int line ∷ Text stock ∷ Int n ∷ Text phase ∷ []) old new result
@@ -104,6 +107,7 @@ pub delete_lines_says : Says purchasing delete_lines (Delete 6 (record { lets = 
 unfolding understood everything
 delete_lines_says = (refl, (refl, refl))
 
+-- the write takes all lines of an order away, and no other order's
 pub takes_lines : (order : List ℕ) (old new : State) (result : Result ℕ Error) → old.now.schema ≡ purchasing
     → IsRising (old.now.trees 11) → ExecutesInside 0 delete_lines (Text order ∷ []) old new result
     → OnOk result (Edits 11 (IsCut (has_key (text_key order))) old new)
@@ -115,12 +119,14 @@ takes_lines order old new result has rising h =
 abbrev pub select_head : List ℕ
 select_head = codes "SELECT account, amount, status, account_phase FROM order_heads WHERE key = ?1 ORDER BY key"
 
+-- the text asks for the head of the rows of an order's key
 pub select_head_asks : Asks purchasing select_head
     (rows_of 9 text_terms (col 1 2 ∷ col 1 3 ∷ col 1 4 ∷ col 1 5 ∷ []) (col 1 1 ∷ []) every)
     (codes "account" ∷ codes "amount" ∷ codes "status" ∷ codes "account_phase" ∷ [])
 unfolding understood everything
 select_head_asks = ((refl, (refl, refl)), refl)
 
+-- the query shows the head of an order, if there is one
 pub reads_head : (key : List ℕ) {X : Type 0} (items : X → List Row) (old new : State) (result : Result X Error)
     → old.now.schema ≡ purchasing → IfOk result (λ v. ShownAs select_head (Text key ∷ []) old new (items v))
     → IfOk result (λ v. AreInOrder by_text None (λ x. column x 2 ∷ column x 3 ∷ column x 4 ∷ column x 5 ∷ [])
@@ -134,12 +140,14 @@ reads_head key items old new result has h =
 abbrev pub select_lines : List ℕ
 select_lines = codes "SELECT line, stock, n, phase FROM order_lines WHERE order_key = ?1 ORDER BY order_key, line"
 
+-- the text asks for the lines of an order, in order of their numbers
 pub select_lines_asks : Asks purchasing select_lines
     (rows_of 11 text_terms (col 1 2 ∷ col 1 3 ∷ col 1 4 ∷ col 1 5 ∷ []) (col 1 1 ∷ col 1 2 ∷ []) every)
     (codes "line" ∷ codes "stock" ∷ codes "n" ∷ codes "phase" ∷ [])
 unfolding understood everything
 select_lines_asks = ((refl, (refl, refl)), refl)
 
+-- the query shows the lines of an order, in order of their numbers
 pub reads_lines : (order : List ℕ) {X : Type 0} (items : X → List Row) (old new : State) (result : Result X Error)
     → old.now.schema ≡ purchasing → IfOk result (λ v. ShownAs select_lines (Text order ∷ []) old new (items v))
     → IfOk result (λ v. AreInOrder by_pair None (λ x. column x 2 ∷ column x 3 ∷ column x 4 ∷ column x 5 ∷ [])

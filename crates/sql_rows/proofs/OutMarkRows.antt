@@ -53,6 +53,7 @@ puts_joined Purchasing sender receiver sent settled id x = refl
 puts_joined Warehouse sender receiver sent settled id x = refl
 puts_joined Billing sender receiver sent settled id x = refl
 
+-- the write puts the marks of a pair in the place of those that were there
 pub puts : (sender : List ℕ) (receiver : List ℕ) (sent : ℤ) (settled : ℤ) (old new : State) (result : Result ℕ Error)
     → IsService old.now.schema → IsRising (old.now.trees 3)
     → ExecutesInside 0 replace (marks_cells sender receiver sent settled) old new result
@@ -70,6 +71,7 @@ puts sender receiver sent settled old new result it rising h =
 abbrev pub select : List ℕ
 select = codes "SELECT sent, settled FROM out_marks WHERE sender = ?1 AND receiver = ?2 ORDER BY sender, receiver"
 
+-- the text asks for `sent` and `settled` of the rows of a pair
 pub select_asks : (service : Service) → Asks (schema_of service) select
     (rows_of 3 pair_terms (col 1 3 ∷ col 1 4 ∷ []) (col 1 1 ∷ col 1 2 ∷ []) every)
     (codes "sent" ∷ codes "settled" ∷ [])
@@ -78,6 +80,7 @@ select_asks Purchasing = ((refl, (refl, refl)), refl)
 select_asks Warehouse = ((refl, (refl, refl)), refl)
 select_asks Billing = ((refl, (refl, refl)), refl)
 
+-- the query shows the marks of the pair, if it has any
 pub reads : (sender : List ℕ) (receiver : List ℕ) {X : Type 0} (items : X → List Row) (old new : State)
     (result : Result X Error) → IsService old.now.schema
     → IfOk result (λ v. ShownAs select (pair_cells sender receiver) old new (items v))

@@ -56,6 +56,7 @@ puts_joined Purchasing sender receiver number body id x = refl
 puts_joined Warehouse sender receiver number body id x = refl
 puts_joined Billing sender receiver number body id x = refl
 
+-- the write puts a letter in the place of one with its number
 pub puts : (sender : List ℕ) (receiver : List ℕ) (number : ℤ) (body : List ℕ) (old new : State)
     (result : Result ℕ Error) → IsService old.now.schema → IsRising (old.now.trees 1)
     → ExecutesInside 0 replace (letter_cells sender receiver number body) old new result
@@ -80,6 +81,7 @@ delete_upto_says Purchasing = (refl, (refl, refl))
 delete_upto_says Warehouse = (refl, (refl, refl))
 delete_upto_says Billing = (refl, (refl, refl))
 
+-- the write takes the letters of a pair up to a number away, and no others
 pub settles : (sender : List ℕ) (receiver : List ℕ) (number : ℤ) (old new : State) (result : Result ℕ Error)
     → IsService old.now.schema → IsRising (old.now.trees 1)
     → ExecutesInside 0 delete_upto (place_cells sender receiver number) old new result
@@ -93,6 +95,7 @@ settles sender receiver number old new result it rising h =
 abbrev pub select_first : List ℕ
 select_first = codes "SELECT sender, receiver, number, body FROM outbox ORDER BY sender, receiver, number LIMIT ?1"
 
+-- the text asks for the first letters, by pair and then by number
 pub select_first_asks : (service : Service)
     → Asks (schema_of service) select_first (rows_of 1 [] (col 1 1 ∷ col 1 2 ∷ col 1 3 ∷ col 1 4 ∷ [])
     (col 1 1 ∷ col 1 2 ∷ col 1 3 ∷ []) (col 0 0))
@@ -102,6 +105,7 @@ select_first_asks Purchasing = ((refl, (refl, refl)), refl)
 select_first_asks Warehouse = ((refl, (refl, refl)), refl)
 select_first_asks Billing = ((refl, (refl, refl)), refl)
 
+-- the query shows the first letters, by pair and then by number, up to the limit
 pub reads_first : (limit : ℤ) {X : Type 0} (items : X → List Row) (old new : State) (result : Result X Error)
     → IsService old.now.schema → IfOk result (λ v. ShownAs select_first (Int limit ∷ []) old new (items v))
     → IfOk result (λ v. AreInOrder by_place (as_count (Int limit)) shown_letter (old.now.trees 1) (items v))
@@ -117,6 +121,7 @@ select_after =
     ++ codes "AND (sender > ?1 OR receiver > ?2 OR receiver = ?2 AND number > ?3) "
     ++ codes "ORDER BY sender, receiver, number LIMIT ?4"
 
+-- the text asks for the letters after a place, by pair and then by number
 pub select_after_asks : (service : Service)
     → Asks (schema_of service) select_after (rows_of 1 after_terms (col 1 1 ∷ col 1 2 ∷ col 1 3 ∷ col 1 4 ∷ [])
     (col 1 1 ∷ col 1 2 ∷ col 1 3 ∷ []) (col 0 3))
@@ -126,6 +131,7 @@ select_after_asks Purchasing = ((refl, (refl, refl)), refl)
 select_after_asks Warehouse = ((refl, (refl, refl)), refl)
 select_after_asks Billing = ((refl, (refl, refl)), refl)
 
+-- the query shows the letters after a place, by pair and then by number, up to the limit
 pub reads_after : (sender : List ℕ) (receiver : List ℕ) (number : ℤ) (limit : ℤ) {X : Type 0} (items : X → List Row)
     (old new : State) (result : Result X Error) → IsService old.now.schema
     → IfOk result (λ v. ShownAs select_after (Text sender ∷ Text receiver ∷ Int number ∷ Int limit ∷ []) old new

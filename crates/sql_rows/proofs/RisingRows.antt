@@ -65,11 +65,13 @@ module _ (trees : Trees) (shape : ℕ → Shape) (reals : ℕ → ℕ) (ordered 
 
 -- ---- of what a call gave
 
+-- three facts of a good result give a fourth
 pub if_ok_thrice : {A E : Type 0} {P Q R W : A → Type 0} (r : Result A E) → IfOk r P → IfOk r Q → IfOk r R
     → ((a : A) → P a → Q a → R a → W a) → IfOk r W
 if_ok_thrice (Ok a) p q r f = f a p q r
 if_ok_thrice (Err e) p q r f = tt
 
+-- a store that isn't broken is open
 pub open_if_whole : (is_open is_broken : Bool) → (is_open ≡ false → IsTrue is_broken) → is_broken ≡ false
     → IsTrue is_open
 open_if_whole true is_broken shut whole = refl

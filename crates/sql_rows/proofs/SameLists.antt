@@ -4,6 +4,7 @@ use Rattle.std.proofs.Common.{◌≡◌, ℕ, suc, ◌<◌, List, [], ◌∷◌,
 head_is : {X : Type 0} {x y : X} → Some x ≡ Some y → x ≡ y
 head_is e = cc
 
+-- lists of one length with equal elements at each place are equal
 pub same_lists : {X : Type 0} (xs ys : List X) → length xs ≡ length ys
     → ((k : ℕ) → k < length xs → slice_get xs k ≡ slice_get ys k) → xs ≡ ys
 same_lists [] [] n at = refl

@@ -11,10 +11,12 @@ use Rattle.sql_rows.specs.Schema.{IsService, schema_of, common_tables, refers_to
 use Rattle.sql_rows.specs.declared.service.Service.{Service}
 use Rattle.sql_rows.specs.declared.service.Service.TheVariants.{Purchasing, Warehouse, Billing}
 
+-- a text that is plain over each service's schema is plain over the schema of any
 pub plain_in : (sql : List ℕ) → ((service : Service) → IsPlain (understood (schema_of service) sql))
     → (schema : Schema) → IsService schema → IsPlain (understood schema sql)
 plain_in sql plain schema it = subst (λ s. IsPlain (understood s sql)) (sym it.is) (plain it.service)
 
+-- a text that is plain over a schema is plain over an equal one
 pub plain_at : {known : Schema} (sql : List ℕ) → IsPlain (understood known sql) → (schema : Schema) → schema ≡ known
     → IsPlain (understood schema sql)
 plain_at sql plain schema is = subst (λ s. IsPlain (understood s sql)) (sym is) plain

@@ -45,6 +45,7 @@ puts_head_joined : (key : List ℕ) (on_hand : ℤ) (reserved : ℤ) (shipped : 
 unfolding first_key
 puts_head_joined key on_hand reserved shipped received id x = refl
 
+-- the write puts a stock's numbers in the place of those that were there
 pub puts_head : (key : List ℕ) (on_hand : ℤ) (reserved : ℤ) (shipped : ℤ) (received : ℤ) (old new : State)
     (result : Result ℕ Error) → old.now.schema ≡ warehouse → IsRising (old.now.trees 9)
     → ExecutesInside 0 replace_head (Text key ∷ Int on_hand ∷ Int reserved ∷ Int shipped ∷ Int received ∷ []) old new
@@ -70,6 +71,7 @@ pub delete_head_says : Says warehouse delete_head (Delete 5 (record { lets = [];
 unfolding understood everything
 delete_head_says = (refl, (refl, refl))
 
+-- the write takes the numbers of a stock away, and no other stock's
 pub takes_head : (key : List ℕ) (old new : State) (result : Result ℕ Error) → old.now.schema ≡ warehouse
     → IsRising (old.now.trees 9) → ExecutesInside 0 delete_head (Text key ∷ []) old new result
     → OnOk result (Edits 9 (IsCut (has_key (text_key key))) old new)
@@ -86,6 +88,7 @@ pub insert_line_says : Says warehouse insert_line
 unfolding understood everything
 insert_line_says = (refl, (refl, refl))
 
+-- the write adds the line of an order to a stock
 pub adds_line : (stock : List ℕ) (order : List ℕ) (n : ℤ) (phase : List ℕ) (old new : State) (result : Result ℕ Error)
     → old.now.schema ≡ warehouse → IsRising (old.now.trees 11)
     → ExecutesInside 0 insert_line (Text stock ∷ Text order ∷ Int n ∷ Text phase ∷ []) old new result
@@ -104,6 +107,7 @@ pub delete_lines_says : Says warehouse delete_lines (Delete 6 (record { lets = [
 unfolding understood everything
 delete_lines_says = (refl, (refl, refl))
 
+-- the write takes all lines of a stock away, and no other stock's
 pub takes_lines : (stock : List ℕ) (old new : State) (result : Result ℕ Error) → old.now.schema ≡ warehouse
     → IsRising (old.now.trees 11) → ExecutesInside 0 delete_lines (Text stock ∷ []) old new result
     → OnOk result (Edits 11 (IsCut (has_key (text_key stock))) old new)
@@ -115,12 +119,14 @@ takes_lines stock old new result has rising h =
 abbrev pub select_head : List ℕ
 select_head = codes "SELECT on_hand, held, shipped, received FROM stocks WHERE key = ?1 ORDER BY key"
 
+-- the text asks for the numbers of the rows of a stock's key
 pub select_head_asks : Asks warehouse select_head
     (rows_of 9 text_terms (col 1 2 ∷ col 1 3 ∷ col 1 4 ∷ col 1 5 ∷ []) (col 1 1 ∷ []) every)
     (codes "on_hand" ∷ codes "held" ∷ codes "shipped" ∷ codes "received" ∷ [])
 unfolding understood everything
 select_head_asks = ((refl, (refl, refl)), refl)
 
+-- the query shows the numbers of a stock, if there is one
 pub reads_head : (key : List ℕ) {X : Type 0} (items : X → List Row) (old new : State) (result : Result X Error)
     → old.now.schema ≡ warehouse → IfOk result (λ v. ShownAs select_head (Text key ∷ []) old new (items v))
     → IfOk result (λ v. AreInOrder by_text None (λ x. column x 2 ∷ column x 3 ∷ column x 4 ∷ column x 5 ∷ [])
@@ -134,12 +140,14 @@ reads_head key items old new result has h =
 abbrev pub select_lines : List ℕ
 select_lines = codes "SELECT order_key, n, phase FROM stock_lines WHERE stock = ?1 ORDER BY stock, order_key"
 
+-- the text asks for the lines of a stock, in order of their orders' keys
 pub select_lines_asks : Asks warehouse select_lines
     (rows_of 11 text_terms (col 1 2 ∷ col 1 3 ∷ col 1 4 ∷ []) (col 1 1 ∷ col 1 2 ∷ []) every)
     (codes "order_key" ∷ codes "n" ∷ codes "phase" ∷ [])
 unfolding understood everything
 select_lines_asks = ((refl, (refl, refl)), refl)
 
+-- the query shows the lines of a stock, in order of their orders' keys
 pub reads_lines : (stock : List ℕ) {X : Type 0} (items : X → List Row) (old new : State) (result : Result X Error)
     → old.now.schema ≡ warehouse → IfOk result (λ v. ShownAs select_lines (Text stock ∷ []) old new (items v))
     → IfOk result (λ v. AreInOrder by_pair None (λ x. column x 2 ∷ column x 3 ∷ column x 4 ∷ [])
@@ -165,6 +173,7 @@ puts_line_joined : (stock : List ℕ) (order : List ℕ) (n : ℤ) (phase : List
 unfolding first_key
 puts_line_joined stock order n phase id x = refl
 
+-- the write puts the line of an order in the place of the one that was there
 pub puts_line : (stock : List ℕ) (order : List ℕ) (n : ℤ) (phase : List ℕ) (old new : State) (result : Result ℕ Error)
     → old.now.schema ≡ warehouse → IsRising (old.now.trees 11)
     → ExecutesInside 0 replace_line (Text stock ∷ Text order ∷ Int n ∷ Text phase ∷ []) old new result
@@ -184,6 +193,7 @@ pub delete_line_says : Says warehouse delete_line (Delete 6 (record { lets = [];
 unfolding understood everything
 delete_line_says = (refl, (refl, refl))
 
+-- the write takes the line of an order away, and no other line
 pub takes_line : (stock : List ℕ) (order : List ℕ) (old new : State) (result : Result ℕ Error)
     → old.now.schema ≡ warehouse → IsRising (old.now.trees 11)
     → ExecutesInside 0 delete_line (Text stock ∷ Text order ∷ []) old new result

@@ -27,6 +27,7 @@ fn create_about<S: Alter>(tx: &mut Transaction<'_, S>, _service: Service) -> Res
         → OnOk result (Makes (tables_of _service) (state S.Store tx.old.conn.now) (state S.Store tx.new.conn.now)) }
     ensures on { IsUnderWay (state S.Store tx.old.conn.now) (state S.Store tx.new.conn.now) }
 {
+    // The key's check lets in a single row: a file is of one service.
     write(
         tx,
         "CREATE TABLE about (one INTEGER PRIMARY KEY CHECK (one = 1), version INTEGER NOT NULL, \
@@ -86,6 +87,7 @@ pub fn create_tables<S: Alter>(
         → KeepsCommit (state S.Store tx.old.conn.now) (state S.Store tx.new.conn.now) }
     ensures survives { Survives (state S.Store tx.old.conn.now) (state S.Store tx.new.conn.now) (λ _. ⊥) }
 {
+    // The common tables come first and `about` last, so that one function serves all three services.
     create_rows(tx, service)?;
     create_about(tx, service)?;
     add_about(tx, service)

@@ -9,7 +9,7 @@ ghost use Rattle.sql_rows.specs.Schema.{in_marks, held};
 use crate::statements::write;
 use sqlite::{Alter, Error, Transaction};
 
-/// Makes the table of what the entities took in.
+/// Makes the table of what the entities processed.
 fn create_journal<S: Alter>(tx: &mut Transaction<'_, S>) -> Result<usize, Error>
     requires made { HasCleanDisk (state S.Store tx.old.conn.now) → AreMade [] (state S.Store tx.old.conn.now).now }
     requires inside { HasCleanDisk (state S.Store tx.old.conn.now)
@@ -19,6 +19,7 @@ fn create_journal<S: Alter>(tx: &mut Transaction<'_, S>) -> Result<usize, Error>
         → OnOk result (Makes (journal ∷ []) (state S.Store tx.old.conn.now) (state S.Store tx.new.conn.now)) }
     ensures on { IsUnderWay (state S.Store tx.old.conn.now) (state S.Store tx.new.conn.now) }
 {
+    // STRICT, here and below: a column holds values of its own type alone.
     write(
         tx,
         "CREATE TABLE journal (pos INTEGER PRIMARY KEY, entity TEXT NOT NULL, seat INTEGER, \
@@ -39,6 +40,7 @@ fn create_outbox<S: Alter>(tx: &mut Transaction<'_, S>) -> Result<usize, Error>
         (state S.Store tx.old.conn.now) (state S.Store tx.new.conn.now)) }
     ensures on { IsUnderWay (state S.Store tx.old.conn.now) (state S.Store tx.new.conn.now) }
 {
+    // The key is the order in which letters are listed: by pair, and then by number.
     write(
         tx,
         "CREATE TABLE outbox (sender TEXT NOT NULL, receiver TEXT NOT NULL, \
@@ -60,6 +62,7 @@ fn create_out_marks<S: Alter>(tx: &mut Transaction<'_, S>) -> Result<usize, Erro
         (state S.Store tx.old.conn.now) (state S.Store tx.new.conn.now)) }
     ensures on { IsUnderWay (state S.Store tx.old.conn.now) (state S.Store tx.new.conn.now) }
 {
+    // The check refuses a mark above what was sent, whatever the code before it does.
     write(
         tx,
         "CREATE TABLE out_marks (sender TEXT NOT NULL, receiver TEXT NOT NULL, \
@@ -81,6 +84,8 @@ fn create_in_marks<S: Alter>(tx: &mut Transaction<'_, S>) -> Result<usize, Error
         (state S.Store tx.old.conn.now) (state S.Store tx.new.conn.now)) }
     ensures on { IsUnderWay (state S.Store tx.old.conn.now) (state S.Store tx.new.conn.now) }
 {
+    // 1099511627776 is 2^40, the last number that a letter can have. A proof needs this check: one more than such a
+    // mark is a number, and no fraction.
     write(
         tx,
         "CREATE TABLE in_marks (sender TEXT NOT NULL, receiver TEXT NOT NULL, \
@@ -110,7 +115,7 @@ fn create_held<S: Alter>(tx: &mut Transaction<'_, S>) -> Result<usize, Error>
     )
 }
 
-/// Makes the first three.
+/// Makes the tables of the journal, of the outbox and of the marks of what is sent.
 #[tactic(auto, using(crate::proofs::Creates::then_makes, crate::proofs::Creates::then_goes_on))]
 fn create_outgoing<S: Alter>(tx: &mut Transaction<'_, S>) -> Result<usize, Error>
     requires made { HasCleanDisk (state S.Store tx.old.conn.now) → AreMade [] (state S.Store tx.old.conn.now).now }
@@ -127,7 +132,7 @@ fn create_outgoing<S: Alter>(tx: &mut Transaction<'_, S>) -> Result<usize, Error
     create_out_marks(tx)
 }
 
-/// Makes the other two.
+/// Makes the tables of the marks of what arrives and of held letters.
 #[tactic(auto, using(crate::proofs::Creates::then_makes, crate::proofs::Creates::then_goes_on))]
 fn create_incoming<S: Alter>(tx: &mut Transaction<'_, S>) -> Result<usize, Error>
     requires made { HasCleanDisk (state S.Store tx.old.conn.now)

@@ -39,7 +39,7 @@ fn create_first_orders<S: Alter>(tx: &mut Transaction<'_, S>) -> Result<usize, E
     )
 }
 
-/// Makes the table behind it, which tells whose tables they are.
+/// Makes the table that tells whose tables they are, after that of orders.
 fn create_first_about<S: Alter>(tx: &mut Transaction<'_, S>) -> Result<usize, Error>
     requires made { HasCleanDisk (state S.Store tx.old.conn.now)
         → AreMade (common_tables ++ orders ∷ []) (state S.Store tx.old.conn.now).now }
@@ -76,7 +76,7 @@ fn create_first<S: Alter>(tx: &mut Transaction<'_, S>) -> Result<usize, Error>
     create_first_about(tx)
 }
 
-/// Makes them, and commits them.
+/// Makes the tables that purchasing had in version 1, and commits them.
 fn make_first_tables<S: Alter>(conn: &mut Connection<S>) -> Result<(), Error>
     requires none { HasCleanDisk (state S.Store conn.old) → (state S.Store conn.old).now.schema ≡ no_tables }
     requires autocommit { conn.old.in_transaction ≡ false }
@@ -92,6 +92,7 @@ fn make_first_tables<S: Alter>(conn: &mut Connection<S>) -> Result<(), Error>
 fn has_first_purchasing<S: Alter>(alloc: Global, conn: &Connection<S>) -> Result<bool, Error>
     ensures { IfOk result (λ has. IsTrue has → (state S.Store conn.now).now.schema ≡ first_purchasing) }
 {
+    // The tables are made in memory and compared: so no second text says what they have to be.
     let mut made = Connection::open_in_memory(alloc)?;
     make_first_tables(&mut made)?;
     Ok(same_schema(conn.schema(), made.schema()))

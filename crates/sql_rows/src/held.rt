@@ -115,6 +115,7 @@ pub fn read_drainable<S: Alter>(conn: &mut Connection<S>) -> Result<Vec<Row>, Er
     ensures crash { HasCleanDisk (state S.Store conn.new) → (db : Trees)
         → (state S.Store conn.new).may_leave db → (state S.Store conn.old).may_leave db }
 {
+    // LEFT JOIN, as a pair of which nothing was handled yet has no row of marks.
     read(
         conn,
         "SELECT held.sender, held.receiver FROM held \

@@ -1,4 +1,4 @@
-//! What the entities took in, in order.
+//! What the entities processed, in order.
 
 ghost use Rattle.std.specs.Prelude.{◌≡◌, ◌≤◌, false, OnOk, IfOk, IsTrue, Some, filter, length, [], ◌∷◌};
 ghost use Rattle.sqlite.specs.Held.{state};
@@ -37,6 +37,7 @@ pub fn add_command<S: Alter>(
         → KeepsCommit (state S.Store tx.old.conn.now) (state S.Store tx.new.conn.now) }
     ensures survives { Survives (state S.Store tx.old.conn.now) (state S.Store tx.new.conn.now) (λ _. ⊥) }
 {
+    // No position is bound: SQLite gives the row the one after the last.
     write(
         tx,
         "INSERT INTO journal (entity, seat, body) VALUES (?1, ?2, ?3)",
@@ -44,7 +45,7 @@ pub fn add_command<S: Alter>(
     )
 }
 
-/// Adds a message that an entity took in, with its sender and its number.
+/// Adds a message that an entity processed, with its sender and its number.
 pub fn add_message<S: Alter>(
     tx: &mut Transaction<'_, S>,
     entity: &str,
@@ -139,6 +140,7 @@ pub fn count_rows<S: Alter>(conn: &mut Connection<S>) -> Result<Vec<Row>, Error>
     ensures crash { HasCleanDisk (state S.Store conn.new) → (db : Trees)
         → (state S.Store conn.new).may_leave db → (state S.Store conn.old).may_leave db }
 {
+    // It goes through all rows, so only an opening asks for it.
     read(conn, "SELECT count(*) FROM journal", &[])
 }
 

@@ -64,6 +64,7 @@ pub fn settle_outbox<S: Alter>(
         → KeepsCommit (state S.Store tx.old.conn.now) (state S.Store tx.new.conn.now) }
     ensures survives { Survives (state S.Store tx.old.conn.now) (state S.Store tx.new.conn.now) (λ _. ⊥) }
 {
+    // All letters up to the number: a settle covers those before it.
     write(
         tx,
         "DELETE FROM outbox WHERE sender = ?1 AND receiver = ?2 AND number <= ?3",
@@ -95,7 +96,7 @@ pub fn read_letters<S: Alter>(conn: &mut Connection<S>, limit: i64) -> Result<Ve
     )
 }
 
-/// The first letters of the outbox behind a place.
+/// The first letters of the outbox after a place.
 pub fn read_letters_after<S: Alter>(
     conn: &mut Connection<S>,
     sender: &str,

@@ -43,6 +43,7 @@ fn create_order_lines<S: Alter>(tx: &mut Transaction<'_, S>) -> Result<usize, Er
         (state S.Store tx.old.conn.now) (state S.Store tx.new.conn.now)) }
     ensures on { IsUnderWay (state S.Store tx.old.conn.now) (state S.Store tx.new.conn.now) }
 {
+    // The checks say what an order is: one to eight lines, each of another stock.
     write(
         tx,
         "CREATE TABLE order_lines (order_key TEXT NOT NULL REFERENCES order_heads (key), \

@@ -43,7 +43,7 @@ fn drop_orders<S: Alter>(tx: &mut Transaction<'_, S>) -> Result<usize, Error>
     write(tx, "DROP TABLE orders", &[])
 }
 
-/// Makes the table of the heads of orders, behind tables that have rows.
+/// Makes the table of the heads of orders, after tables that have rows.
 fn rebuild_order_heads<S: Alter>(tx: &mut Transaction<'_, S>) -> Result<usize, Error>
     requires schema { HasCleanDisk (state S.Store tx.old.conn.now)
         → (state S.Store tx.old.conn.now).now.schema ≡ schema_with common_tables }
@@ -55,6 +55,7 @@ fn rebuild_order_heads<S: Alter>(tx: &mut Transaction<'_, S>) -> Result<usize, E
         (state S.Store tx.old.conn.now) (state S.Store tx.new.conn.now)) }
     ensures on { IsUnderWay (state S.Store tx.old.conn.now) (state S.Store tx.new.conn.now) }
 {
+    // The text is that of `create_order_heads`, whose contract is for tables without rows.
     write(
         tx,
         "CREATE TABLE order_heads (key TEXT NOT NULL, account TEXT NOT NULL, \
@@ -64,7 +65,7 @@ fn rebuild_order_heads<S: Alter>(tx: &mut Transaction<'_, S>) -> Result<usize, E
     )
 }
 
-/// Makes the table of the lines of orders behind it.
+/// Makes the table of the lines of orders, after that of their heads.
 fn rebuild_order_lines<S: Alter>(tx: &mut Transaction<'_, S>) -> Result<usize, Error>
     requires schema { HasCleanDisk (state S.Store tx.old.conn.now)
         → (state S.Store tx.old.conn.now).now.schema ≡ schema_with (common_tables ++ order_heads ∷ []) }
@@ -86,7 +87,7 @@ fn rebuild_order_lines<S: Alter>(tx: &mut Transaction<'_, S>) -> Result<usize, E
     )
 }
 
-/// Makes the table behind them that tells whose tables they are.
+/// Makes the table that tells whose tables they are, after those of orders.
 fn rebuild_about<S: Alter>(tx: &mut Transaction<'_, S>) -> Result<usize, Error>
     requires schema { HasCleanDisk (state S.Store tx.old.conn.now)
         → (state S.Store tx.old.conn.now).now.schema ≡ schema_with (common_tables ++ order_heads ∷ order_lines ∷ []) }
@@ -158,11 +159,12 @@ fn drop_first<S: Alter>(tx: &mut Transaction<'_, S>) -> Result<usize, Error>
         (state S.Store tx.old.conn.now) (state S.Store tx.new.conn.now)) }
     ensures on { IsUnderWay (state S.Store tx.old.conn.now) (state S.Store tx.new.conn.now) }
 {
+    // `about` is made again too: schemas are compared table by table, and it has to be the last.
     drop_about(tx)?;
     drop_orders(tx)
 }
 
-/// Makes the three that version 2 has in their place.
+/// Makes the three tables that version 2 has in place of the two of version 1.
 #[tactic(auto, using(crate::proofs::FirstVersionTables::making))]
 fn rebuild<S: Alter>(tx: &mut Transaction<'_, S>) -> Result<usize, Error>
     requires schema { HasCleanDisk (state S.Store tx.old.conn.now)
@@ -181,7 +183,7 @@ fn rebuild<S: Alter>(tx: &mut Transaction<'_, S>) -> Result<usize, Error>
 }
 
 /// Puts the tables of purchasing in place of those of version 1, with no order; what the others have is as it was. The
-/// orders of version 1 are gone behind it: they have to be read before.
+/// orders of version 1 are gone after it: they have to be read before.
 #[tactic(auto, using(crate::proofs::FirstVersionTables::replacing))]
 pub fn replace_tables<S: Alter>(tx: &mut Transaction<'_, S>) -> Result<usize, Error>
     requires schema { HasCleanDisk (state S.Store tx.old.conn.now)

@@ -18,6 +18,7 @@ pub trait Same {
 fn all_same<T: Same>(ones: &[T], others: &[T]) -> bool
     ensures { IsTrue result → ones.now ≡ others.now }
 {
+    // `zip` ends with the shorter of the two.
     if ones.len() != others.len() {
         return false;
     }
@@ -59,6 +60,7 @@ impl Same for Value {
             (Value::Null, Value::Null) => true,
             (Value::Int(one), Value::Int(other)) => one == other,
             (Value::Text(one), Value::Text(other)) => one.same(other),
+            // Reals and blobs count as different. No table here has them; at worst a file is refused.
             _ => false,
         }
     }
@@ -149,6 +151,7 @@ pub fn same_schema(one: &Schema, other: &Schema) -> bool
 {
     one.tables.same(&other.tables)
         && one.indexes.same(&other.indexes)
+        // None of our schemas has a view, so views needn't be compared.
         && one.views.is_empty()
         && other.views.is_empty()
 }

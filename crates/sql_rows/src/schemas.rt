@@ -16,6 +16,7 @@ pub fn has_no_tables<S: Alter>(conn: &Connection<S>) -> bool
     ensures { IsTrue result ↔ ((state S.Store conn.now).now.schema ≡ no_tables) }
 {
     let schema = conn.schema();
+    // A file with an index or a view alone is another's too.
     schema.tables.is_empty() && schema.indexes.is_empty() && schema.views.is_empty()
 }
 
@@ -39,6 +40,7 @@ pub fn has_tables<S: Alter>(
 ) -> Result<bool, Error>
     ensures { IfOk result (λ has. IsTrue has → (state S.Store conn.now).now.schema ≡ schema_of service) }
 {
+    // The tables are made in memory and compared: so no second text says what they have to be.
     let mut made = Connection::open_in_memory(alloc)?;
     make_tables(&mut made, service)?;
     Ok(same_schema(conn.schema(), made.schema()))

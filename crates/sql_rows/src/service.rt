@@ -15,7 +15,7 @@ pub enum Service {
 }
 
 impl Service {
-    /// Its name in the table `about`.
+    /// The service's name in the table `about`.
     pub fn name(self) -> &'static str
         ensures { result.now ≡ name_of self }
     {

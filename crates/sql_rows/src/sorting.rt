@@ -1,4 +1,4 @@
-//! A connection whose rows are known to stand in order.
+//! A connection whose rows are known to be in order.
 
 ghost use Rattle.std.specs.Prelude.{◌≡◌, ◌≤◌, false, IfOk};
 ghost use Rattle.std.specs.List.{AllByRecursion};
@@ -11,8 +11,8 @@ use sqlite::{Alter, Connection, Error, ErrorCode};
 use sqlite_trees::store::Store;
 use std::alloc::Global;
 
-/// The connection over the same store, with what was committed, whose rows are known to stand in order: the rowids of
-/// each table rise. An open finds them so and doesn't tell; here each row is tested once more.
+/// The connection over the same store, with what was committed, whose rows are known to be in order: the rowids of each
+/// table rise. An open finds them so and doesn't tell; here each row is tested once more.
 pub fn with_sorted_rows<S: Alter + Drop>(
     alloc: Global,
     conn: Connection<S>,

@@ -146,10 +146,12 @@ id_unrefused c v hs escapes all found =
 
 -- ---- CONNECT
 
+-- CONNECT takes its `accept-version`
 pub version_unrefused : header_refused (frame Connect [] []) (header (codes "accept-version") (codes "1.2")) ≡ None
 unfolding line_of
 version_unrefused = refl
 
+-- CONNECT takes its `host` after another header
 pub host_unrefused : (h : Header) → header_refused (frame Connect (h ∷ []) []) (header (codes "host") (codes "outbox"))
     ≡ None
 unfolding line_of

@@ -138,9 +138,11 @@ unrefused f (commits number given e) = ap (refusal_of true) e ∙ rw (number_fit
 unrefused f (aborts number given e) = ap (refusal_of true) e ∙ rw (number_fits number given) refl
 unrefused f (disconnects e) = rw e refl
 
+-- a server's session accepts each frame of a client, once connected
 pub each_is_taken : (f : Content) → IsClients f → request_of true f ≡ Ok (asked f)
 each_is_taken f is = ap (λ (r : Option SessionFault). request_unless r f) (unrefused f is)
 
+-- a server's session accepts the client's CONNECT
 pub connect_is_taken : request_of false connect_frame ≡ Ok (asked connect_frame)
 connect_is_taken = refl
 
@@ -153,6 +155,7 @@ others_taken : (fs : List Content) → AllByRecursion IsClients fs → AllByRecu
 others_taken [] all = tt
 others_taken (f ∷ fs) all = (ok_at (request_of true f) (asked f) (each_is_taken f all.0), others_taken fs all.1)
 
+-- a server's session accepts CONNECT and all frames after it
 pub all_are_taken : (fs : List Content) → AllByRecursion IsClients fs
     → AllByRecursion (λ r. IsOk r) (answers_of false (connect_frame ∷ fs))
 all_are_taken fs all = (refl, others_taken fs all)
@@ -163,6 +166,7 @@ first_taken : (fs gs : List Content) (connected : Bool) → AllByRecursion (λ r
 first_taken [] gs connected all = tt
 first_taken (f ∷ fs) gs connected all = (all.0, first_taken fs gs (connected || is_ok (request_of connected f)) all.1)
 
+-- a server's session accepts all frames of a client, however their text was cut on the way
 pub given_are_taken : (fs : List Content) (gone out received waiting carried : List ℕ) (calls : List DecoderCall)
     (held : Held)
     → AllByRecursion IsClients fs

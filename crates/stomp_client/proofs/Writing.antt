@@ -24,6 +24,7 @@ whole_text frames gone out received waiting carried calls wrote travels e =
     travels_keep gone received (Some waiting) (Some carried) travels in
     sym wrote.whole ∙ rw (kept, e) (simp append_assoc)
 
+-- the frames that a decoder gave are the first of those written, and it awaits the others
 pub awaited : (frames : List Content) (gone out received waiting carried : List ℕ) (calls : List DecoderCall)
     (held : Held)
     → Wrote frames gone out
@@ -36,6 +37,7 @@ awaited frames gone out received waiting carried calls held wrote travels happen
     (canonical_texts_are_spelled MAX_BODY (omega arith) frames wrote.each) in
     sent_is_given MAX_BODY calls held frames (carried ++ waiting ++ out) happened spelled
 
+-- where nothing is on its way, the decoder gave all frames that were written
 pub all_given : (frames : List Content) (gone received : List ℕ) (calls : List DecoderCall) (held : Held)
     → Wrote frames gone []
     → Travels gone received (Some []) (Some [])

@@ -18,7 +18,7 @@ pub enum ClientFault {
     /// The session is closed.
     #[error("43 Closed: the session is closed")]
     Closed,
-    /// A growth was refused.
+    /// An allocation failed.
     #[error("44 Memory: out of memory")]
     Memory,
     /// The last number, 2^64 - 1, was given.

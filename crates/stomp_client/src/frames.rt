@@ -26,6 +26,7 @@ fn push(frame: &mut Frame<MAX_BODY>, name: &str, value: &str) -> Result<(), Allo
     match frame.push_header(name, value) {
         Ok(()) => Ok(()),
         Err(FrameFault::Memory) => Err(AllocError),
+        // The caller has to see to it that the frame takes the header.
         Err(_) => unreachable!(),
     }
 }
@@ -104,7 +105,7 @@ fn connect_start(alloc: Global) -> Result<Frame<MAX_BODY>, AllocError>
 /// CONNECT for version 1.2 and a host of the broker, with a login and a passcode where they are given.
 ///
 /// # Errors
-/// `Memory` where a growth was refused, and else the first that applies to the host, the login and the passcode:
+/// `Memory` if an allocation fails, and else the first that applies to the host, the login and the passcode:
 /// - `BadLine` where a NUL, CR or LF is in it: CONNECT has no escapes;
 /// - `LineTooLong` where its line would have more than 1,024 octets.
 #[tactic(auto, using(crate::proofs::Making::stops, crate::proofs::Making::goes_on))]
@@ -132,14 +133,15 @@ pub fn subscribe_frame(alloc: Global, destination: &str) -> Result<Frame<MAX_BOD
     ensures { IfOk result (λ f. f ≡ subscribe_frame destination.now) }
 {
     let mut frame = Frame::new(alloc, Command::Subscribe);
+    // A session has one subscription, so one id does.
     push(&mut frame, "id", "0")?;
     push(&mut frame, "destination", destination)?;
     push(&mut frame, "ack", "client-individual")?;
     Ok(frame)
 }
 
-/// The same, which asks the broker to hand out so many messages at most that aren't answered. The standard has no header
-/// for that: it has the names of ActiveMQ and of RabbitMQ, and others pass over it.
+/// SUBSCRIBE as by [`subscribe_frame`], which asks the broker to deliver so many messages at most that aren't answered.
+/// The standard has no header for that: it has the names of ActiveMQ and of RabbitMQ, and others pass over it.
 pub fn subscribe_frame_with(
     alloc: Global,
     destination: &str,
@@ -198,6 +200,7 @@ pub fn answer_frame(
     requires message { IsDelivered message.now }
     ensures { IfOk result (λ f. f ≡ answer_frame command message.now transaction) }
 {
+    // It does nothing: by its contract the MESSAGE's `ack` fits into the answer.
     message.holds();
     let mut frame = Frame::new(alloc, command);
     if let Some(id) = message.get("ack") {

@@ -39,7 +39,7 @@ pub fn what_a_client_wrote_is_read()
 {}
 
 /// A server's session refuses nothing that a client writes, however its text is cut on the way: CONNECT connects it,
-/// and each frame behind that asks what it says. The calls have to be given what a server takes: a SEND with a
+/// and each frame after that asks what it says. The calls have to be given what a server takes: a SEND with a
 /// destination and at most 28 headers of its own, and a MESSAGE whose `ack` has at most 128 octets.
 pub fn what_a_client_wrote_is_taken()
     ensures connect { request_of false connect_frame ≡ Ok (asked connect_frame) }

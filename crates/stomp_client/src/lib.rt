@@ -1,10 +1,10 @@
 //! The client's side of a session: what its calls write, and what a server's frames tell.
 //!
 //! Each call that writes appends one canonical frame to [`ClientSession::out`], or answers a fault and leaves the
-//! session as it was. So what was written over any calls is the canonical text of the calls' frames, one behind the
+//! session as it was. So what was written over any calls is the canonical text of the calls' frames, one after the
 //! other, and a server's decoder reads exactly these, however their text is cut on its way:
 //! [`what_a_client_wrote_is_read`]. A server's frame tells one [`ClientEvent`]; one that no server may send then closes
-//! the session. Accepting takes no memory.
+//! the session. Accepting allocates nothing.
 //!
 //! ```text
 //! connect               CONNECT accept-version:1.2 host:outbox

@@ -70,7 +70,7 @@ impl<T: Drop> Model for ClientSession<T> {
 }
 
 impl<T: Drop> ClientSession<T> {
-    /// A session in which nothing was written. It takes no memory.
+    /// A session in which nothing was written. It allocates nothing.
     pub fn new(alloc: Global) -> ClientSession<T>
         ensures { result.client ≡ new_client }
     {
@@ -97,7 +97,7 @@ impl<T: Drop> ClientSession<T> {
         self.out.as_slice()
     }
 
-    /// Takes the first octets away, which were sent. It takes no memory.
+    /// Takes the first octets away, which were sent. It allocates nothing.
     pub fn taken(&mut self, count: usize)
         requires { count ≤ length self.old.client.out }
         ensures taken { self.new.client ≡ without_first count self.old.client }
@@ -122,19 +122,20 @@ impl<T: Drop> ClientSession<T> {
         self.transactions
     }
 
-    /// Counts the next transaction, whose BEGIN is written by `append`. It takes no memory.
+    /// Counts the next transaction, whose BEGIN is written by `append`. It allocates nothing.
     pub fn count_transaction(&mut self)
         requires { self.old.client.transactions < 2 ^ 64 - 1 }
         ensures counted { self.new.client ≡ counting self.old.client }
         ensures room { self.new.room ≡ self.old.room }
     {
+        // Below the last number: the caller has tested that.
         self.transactions += 1;
     }
 
-    /// Makes room for so many more octets: `append` takes no memory then.
+    /// Makes room for so many more octets: `append` allocates nothing then.
     ///
     /// # Errors
-    /// `Memory` where a growth was refused.
+    /// `Memory` if an allocation fails.
     pub fn room(&mut self, octets: usize) -> Result<(), ClientFault>
         ensures room { OnOk result (octets ≤ self.new.room) }
         ensures kept { self.old.room ≤ self.new.room }
@@ -146,11 +147,11 @@ impl<T: Drop> ClientSession<T> {
         Ok(())
     }
 
-    /// Appends frames whose canonical texts were made before, all or none. Within the room that was asked for it takes
-    /// no memory.
+    /// Appends frames whose canonical texts were made before, all or none. Within the room that was asked for it
+    /// allocates nothing.
     ///
     /// # Errors
-    /// `Memory` where a growth was refused, and then nothing was appended.
+    /// `Memory` if an allocation fails, and then nothing was appended.
     pub fn append(&mut self, octets: &[u8]) -> Result<(), ClientFault>
         requires { AreWhole octets.now }
         ensures ok { OnOk result (self.new.client ≡ appended octets.now self.old.client) }
@@ -189,7 +190,7 @@ impl<T: Drop> ClientSession<T> {
         }
     }
 
-    /// The number behind the last one, or why no frame may be written with it now.
+    /// The number after the last one, or why no frame may be written with it now.
     fn next(&self, last: u64) -> Result<u64, ClientFault>
         ensures ok { IfOk result (λ n. (or_used last (unready self.now.client.stage) ≡ None) × (n ≡ last + 1)
             × (n < 2 ^ 64)) }
@@ -246,6 +247,7 @@ impl<T: Drop> ClientSession<T> {
     {
         self.may_connect()?;
         self.write(frame)?;
+        // Only once it's written: without memory for it CONNECT can be tried again.
         self.stage = Stage::Connecting;
         Ok(())
     }
@@ -267,7 +269,7 @@ impl<T: Drop> ClientSession<T> {
         Ok(())
     }
 
-    /// Writes SUBSCRIBE to a destination, and asks the broker to hand out so many messages at most that aren't answered.
+    /// Writes SUBSCRIBE to a destination, and asks the broker to deliver so many messages at most that aren't answered.
     pub fn subscribe_with(&mut self, destination: &str, prefetch: u64) -> Result<(), ClientFault>
         requires { IsShort destination.now }
         ensures does { WritesFrame (subscribe_frame_with destination.now prefetch) self.old.client self.new.client result }
@@ -319,6 +321,7 @@ impl<T: Drop> ClientSession<T> {
         match self.receipts.open(tag) {
             Ok(number) => Ok(number),
             Err(_) => {
+                // Taken back: the RECEIPT of a number that isn't open would close the session.
                 self.out.truncate(before);
                 Err(ClientFault::Memory)
             }
@@ -337,6 +340,7 @@ impl<T: Drop> ClientSession<T> {
         let number = self.next(self.transactions)?;
         let frame = transaction_frame(self.alloc, Command::Begin, number)?;
         self.write(&frame)?;
+        // Counted only once its BEGIN is written.
         self.transactions = number;
         Ok(number)
     }
@@ -412,7 +416,7 @@ impl<T: Drop> ClientSession<T> {
     }
 
     /// Writes DISCONNECT with the next receipt number, which is answered, and closes the session: the server's RECEIPT,
-    /// behind which it closes the connection, isn't for `accept`.
+    /// after which it closes the connection, isn't for `accept`.
     ///
     /// # Errors
     /// Besides those of `subscribe`, and before `Memory`: `NumbersUsed` where the last number is 2^64 - 1.
@@ -425,11 +429,12 @@ impl<T: Drop> ClientSession<T> {
         let number = self.next(last)?;
         let frame = disconnect_frame_with(self.alloc, number)?;
         self.write(&frame)?;
+        // Its number isn't opened, as no RECEIPT is accepted any more.
         self.stage = Stage::Closed;
         Ok(number)
     }
 
-    /// What a server's frame tells. After an ERROR the session is closed. It takes no memory.
+    /// What a server's frame tells. After an ERROR the session is closed. It allocates nothing.
     ///
     /// # Errors
     /// - `Closed` where the session is closed.
@@ -501,6 +506,7 @@ impl<T: Drop> ClientSession<T> {
         };
         match self.receipts.close(number) {
             Some(tag) => Ok(ClientEvent::Receipt(number, tag)),
+            // Never asked for, or answered before: what the server means isn't known any more.
             None => Err(self.refuse()),
         }
     }
@@ -511,6 +517,7 @@ impl<T: Drop> ClientSession<T> {
         ensures accepts { Accepts frame self.old.client self.new.client (Ok result) }
         ensures room { self.new.room ≡ self.old.room }
     {
+        // The text is taken out of the frame and not copied: to accept a frame allocates nothing.
         let (_, headers, _) = frame.into_parts();
         let text = first_value(self.alloc, headers, "message");
         self.stage = Stage::Closed;
@@ -522,6 +529,7 @@ impl<T: Drop> ClientSession<T> {
 fn is_whole(frame: &Frame<MAX_BODY>) -> bool
     ensures { result ≡ is_whole frame.now }
 {
+    // `ack` too, as the client subscribes in mode `client-individual`.
     frame.get("destination").is_some()
         && frame.get("message-id").is_some()
         && frame.get("subscription").is_some()
@@ -544,6 +552,7 @@ fn first_value(alloc: Global, mut headers: Vec<Header>, name: &str) -> String
 {
     for (index, header) in headers.iter().enumerate() {
         if header.name() == name {
+            // The other headers aren't used, so their order needn't be kept.
             return headers.swap_remove(index).into_value();
         }
     }

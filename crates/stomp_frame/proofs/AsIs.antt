@@ -82,6 +82,7 @@ masked_is xs n long =
     ∙ or_marked _ _ xs) (is 92)
     ∙ or_marked _ _ xs
 
+-- the comparison of a whole vector says whether one of its octets has an escape
 pub vector_is : (xs : List ℕ) (n : ℕ) → length xs ≡ n → n ≤ 64
     → eqb (mask_l (map (top 7) (masked xs n)) % 2 ^ 64) 0 ≡ is_as_is xs
 vector_is xs n long few =
@@ -137,6 +138,7 @@ overlap p (x ∷ xs) (suc n) (suc m) le =
     more true b c d e = e
     more false b c d e = refl
 
+-- the first octets and the last, which overlap, say it of the whole text
 pub ends_tell : (xs : List ℕ) (n : ℕ) → length xs ≤ n + n
     → is_as_is (take n xs ++ drop (length xs - n) xs) ≡ is_as_is xs
 ends_tell xs n few =

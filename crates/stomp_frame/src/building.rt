@@ -8,10 +8,11 @@ use crate::octets::{is_bad, is_long};
 use crate::{Command, FrameFault, Header};
 use base::limits::MAX_HEADERS;
 
-/// Why a header is refused behind so many others.
+/// Why a header is refused after so many others.
 pub fn refused_behind(command: Command, count: usize, name: &str, value: &str) -> Option<FrameFault>
     ensures { result ≡ refused_behind command count (header name.now value.now) }
 {
+    // `content-length` is for the encoder alone, which writes it of the body that is there.
     if is_bad(command, name, value) || name == "content-length" {
         Some(FrameFault::BadLine)
     } else if is_long(command, name, value) {

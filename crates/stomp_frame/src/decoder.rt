@@ -17,14 +17,15 @@ const RESTING: usize = 32_768;
 ///
 /// However the text is cut into pieces, its frames are the same, and its fault is. Where `next` finds no whole frame,
 /// it leaves at most `BODY` and 35,910 octets held, and room for four times `BODY`, or for 32,768 octets where nothing
-/// is held. A length that is told takes no memory: its octets do as they come. Of a frame that isn't whole, a later
+/// is held. A length that is told allocates nothing: its octets do as they come. Of a frame that isn't whole, a later
 /// call of `next` reads no octet again but for one.
 #[derive(Debug, Drop)]
 pub struct Decoder<const BODY: usize> {
     alloc: Global,
-    // those that no frame was read from yet
+    // Those that no frame was read from yet.
+    // A BytesMut drops frames at its front, so that no index can leave it.
     octets: BytesMut,
-    // how far these are read
+    // How far these are read.
     progress: Progress,
     failed: bool,
 }
@@ -44,7 +45,7 @@ impl<const BODY: usize> Model for Decoder<BODY> {
 }
 
 impl<const BODY: usize> Decoder<BODY> {
-    /// A decoder that holds nothing. It takes no memory.
+    /// A decoder that holds nothing. It allocates nothing.
     pub fn new(alloc: Global) -> Decoder<BODY>
         ensures { result ≡ record { octets = []; failed = false } }
     {
@@ -56,11 +57,11 @@ impl<const BODY: usize> Decoder<BODY> {
         }
     }
 
-    /// Holds a piece of the text behind what it holds.
+    /// Holds a piece of the text after what it holds.
     ///
     /// # Errors
     /// Nothing has changed then:
-    /// - `Memory` where a growth was refused, never for a piece of no octets;
+    /// - `Memory` if an allocation fails, never for a piece of no octets;
     /// - `Failed` where `next` has answered a fault of the text.
     pub fn feed(&mut self, piece: &[u8]) -> Result<(), FrameFault>
         ensures { FeedsDecoder self.old self.new piece.now result }
@@ -75,7 +76,7 @@ impl<const BODY: usize> Decoder<BODY> {
     /// The next frame, and none where the text goes on. EOLs before a frame are passed over.
     ///
     /// # Errors
-    /// - `Memory` where a growth was refused, and then nothing has changed;
+    /// - `Memory` if an allocation fails, and then nothing has changed;
     /// - the fault of the text, `UnknownCommand` to `BodyNotAllowed`, once the octet is held at which it is found;
     /// - `Failed` at each call after that.
     pub fn next(&mut self) -> Result<Option<Frame<BODY>>, FrameFault>
@@ -84,6 +85,7 @@ impl<const BODY: usize> Decoder<BODY> {
         if self.failed {
             return Err(FrameFault::Failed);
         }
+        // Asked before the read, which moves the progress on.
         let begins = is_at_start(&self.progress);
         let text = after_gap(self.octets.as_slice());
         let len = text.len();
@@ -105,12 +107,12 @@ impl<const BODY: usize> Decoder<BODY> {
                 Ok(None)
             }
             Err(fault) => {
-                // what was begun may be half read: it begins anew, over the same octets
+                // What was begun may be half read: it's read from its start again, over the same octets.
                 self.progress = Progress::Line(0);
                 if fault == FrameFault::Memory {
                     return Err(fault);
                 }
-                // where the next frame would begin can't be told behind a fault
+                // Where the next frame would begin can't be told after a fault.
                 self.failed = true;
                 Err(fault)
             }
@@ -130,7 +132,7 @@ impl<const BODY: usize> Decoder<BODY> {
     fn settle(&mut self, begins: bool)
         ensures { self.new ≡ self.old }
     {
-        // only what is held of a frame when it begins, so that no octet is moved twice
+        // Only what is held of a frame when it begins, so that no octet is moved twice.
         if begins {
             move_to_front(&mut self.octets);
         }
@@ -138,7 +140,8 @@ impl<const BODY: usize> Decoder<BODY> {
         if held == 0 {
             shrink(self.alloc, &mut self.octets, RESTING / 2, RESTING / 2);
         } else {
-            // a frame that isn't whole fits into it, and a piece
+            // A frame that isn't whole fits into it, and a piece.
+            // With less room each piece of a long body would move those before it, at quadratic cost.
             let most = BODY.saturating_mul(2).max(held);
             shrink(self.alloc, &mut self.octets, most, held);
         }
@@ -163,6 +166,7 @@ fn append(alloc: Global, octets: &mut BytesMut, piece: &[u8]) -> Result<(), Allo
 }
 
 /// Makes a piece the octets, where there are none, in memory of its own length: no room of that has to be filled first.
+// Seldom called: mostly there is room for the piece.
 #[cold]
 #[inline(never)]
 fn begin_with(alloc: Global, octets: &mut BytesMut, piece: &[u8]) -> Result<(), AllocError>
@@ -196,6 +200,7 @@ fn shrink(alloc: Global, octets: &mut BytesMut, most: usize, kept: usize)
     ensures { octets.new.items ≡ octets.old.items }
 {
     if octets.capacity() > most {
+        // Without memory for a smaller block the larger one stays.
         if let Ok(less) = copy_into(alloc, octets.as_slice(), kept) {
             *octets = less;
         }

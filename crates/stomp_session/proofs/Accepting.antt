@@ -77,6 +77,7 @@ refused_by : (refusal : Option SessionFault) (f : Content) → refusal ≢ Some 
 refused_by None f other = λ e. cc
 refused_by (Some fault) f other = λ e. other (let same : fault ≡ Memory = cc in ap Some same)
 
+-- no frame is refused for want of memory
 pub no_memory_is_wanted : (connected : Bool) (f : Content) → request_of connected f ≢ Err Memory
 no_memory_is_wanted connected f = refused_by (refusal_of connected f) f (never_memory connected f)
 
@@ -247,6 +248,7 @@ is_asked connected f request e =
     let parts = asked_unless (refusal_of connected f) f request e in
     record { accepted = accepted connected f parts.0; asked = parts.1 }
 
+-- what an accepted request holds fits what a server writes of it
 pub accepted_fits : (connected : Bool) (f : Content) (request : Request) → IsFrame MAX_BODY f
     → request_of connected f ≡ Ok request
     → Fits request
@@ -265,6 +267,7 @@ short_told c hs (Some value) all e = by_length (is_long (Some value)) refl
     by_length true is = tt
     by_length false is = told_value c (codes "receipt") value (owned_value c (codes "receipt") hs value all e) is
 
+-- the receipt that an ERROR names fits into it
 pub told_receipts_fit : (f : Content) → IsFrame MAX_BODY f → IsEchoedIfAny (receipt_told f)
 told_receipts_fit f is = by_command (opens f.command)
   where
@@ -304,6 +307,7 @@ receipt_by Message f client small = absurd (let k : true ≡ false = client in c
 receipt_by Receipt f client small = absurd (let k : true ≡ false = client in cc)
 receipt_by Error f client small = absurd (let k : true ≡ false = client in cc)
 
+-- the receipt of an accepted request is the one that an ERROR would name
 pub accepted_receipt : (connected : Bool) (f : Content) (request : Request) → request_of connected f ≡ Ok request
     → receipt_of request ≡ receipt_told f
 accepted_receipt connected f request e =

@@ -102,6 +102,7 @@ flat : (a b c d e f g h i j k : List ℕ)
     ≡ a ++ (b ++ (c ++ (d ++ (e ++ (f ++ (g ++ (h ++ (i ++ (j ++ k)))))))))
 flat a b c d e f g h i j k = simp append_assoc
 
+-- the lines written before a MESSAGE's own headers are those of its frame
 pub head_is : (front : List ℕ) (d : Delivered) → is_plain_message d ≡ true → IsGiven (length d.body) → IsGiven d.number
     → IsGivenIfAny d.ack
     → ((((((((((front ++ codes "MESSAGE\ncontent-length:") ++ decimal (length d.body)) ++ codes "\ndestination:")

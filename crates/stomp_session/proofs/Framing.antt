@@ -35,6 +35,7 @@ version_owned c good = owned c (codes "version") (codes "1.2") (record {
   short = omega arith;
 })
 
+-- CONNECTED is a frame
 pub connected_is_a_frame : IsFrame MAX_BODY connected_frame
 connected_is_a_frame = record {
   headers = (version_owned Connected refl, (heart_beat_owned, tt));
@@ -42,6 +43,7 @@ connected_is_a_frame = record {
   body = omega arith;
 }
 
+-- a RECEIPT of what may be echoed is a frame
 pub receipt_is_a_frame : (receipt : List ℕ) → IsEchoed receipt → IsFrame MAX_BODY (receipt_frame receipt)
 receipt_is_a_frame receipt echoed = record {
   headers = (echo_owned Receipt (codes "receipt-id") receipt refl refl refl refl (omega arith) echoed, tt);
@@ -82,6 +84,7 @@ message_owned number name small named =
       short = omega (arith, message.short);
     })
 
+-- an ERROR of a fault is a frame, with a receipt or without
 pub error_is_a_frame : (number : ℕ) (name : List ℕ) (receipt : Option (List ℕ)) → IsGiven number → IsEchoed name
     → IsEchoedIfAny receipt
     → IsFrame MAX_BODY (error_frame number name receipt)
@@ -118,6 +121,7 @@ leading_owned d told =
     echo_owned Message (codes "subscription") d.subscription refl refl refl refl (omega arith) told.subscription in
     (told.carried.destination, (number, (subscription, acks_owned d.ack told.ack)))
 
+-- a MESSAGE of a delivery is a frame
 pub message_is_a_frame : (d : Delivered) → IsTold d → IsFrame MAX_BODY (message_frame d)
 message_is_a_frame d told = record {
   headers = all_append (IsOwn Message) (leading_headers d) d.headers (leading_owned d told) told.carried.headers;

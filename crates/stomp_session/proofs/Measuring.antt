@@ -28,6 +28,7 @@ value_short name (h ∷ hs) none = elim (cases_Bool (bytes_eq h.name name)) [
       (list_any (λ (g : Header). nat_lt MAX_ECHOED (length g.value)) hs) none))
 ]
 
+-- where no element passes, none in a list does
 pub any_never : {X : Type 0} (p : X → Bool) (xs : List X) → ((x : X) → p x ≡ false) → list_any p xs ≡ false
 any_never p [] never = refl
 any_never p (x ∷ xs) never = rw (never x) (any_never p xs never)

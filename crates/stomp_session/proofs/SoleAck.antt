@@ -45,6 +45,7 @@ parts true Ack (h ∷ []) body id e = (one h body id e, refl)
 parts true Ack (h ∷ i ∷ hs) body id e = absurd cc
 parts true _ hs body id e = absurd cc
 
+-- an ACK with an `id` alone asks just for that
 pub sole_asks : (connected : Bool) (f : Content) (id : List ℕ) → sole_ack connected f ≡ Some id
     → (request_of connected f ≡ Ok (acking id)) × (connected ≡ true)
 sole_asks connected f id e = parts connected f.command f.headers f.body id e

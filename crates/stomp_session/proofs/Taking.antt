@@ -61,6 +61,7 @@ pub taken_value : (name : List ℕ) (hs : List Header) (at : ℕ) (d : Header) �
     → value_of name hs ≡ Some (get_or hs at d).value
 taken_value name hs at d found = value_at name hs at d (first_at name hs at d found)
 
+-- the first header of a name is taken out at its place
 pub taken_rest : (name : List ℕ) (hs : List Header) (at : ℕ) (d : Header) → position (is_named name) hs ≡ Some at
     → without_first name hs ≡ remove hs at
 taken_rest name hs at d found = rest_at name hs at d (first_at name hs at d found)
@@ -96,6 +97,7 @@ missing name hs none =
 pub missing_value : (name : List ℕ) (hs : List Header) → position (is_named name) hs ≡ None → value_of name hs ≡ None
 missing_value name hs none = (missing name hs none).value
 
+-- where no header has a name, none is taken out
 pub missing_rest : (name : List ℕ) (hs : List Header) → position (is_named name) hs ≡ None → without_first name hs ≡ hs
 missing_rest name hs none = (missing name hs none).rest
 
@@ -116,10 +118,12 @@ behind_one name other [] apart = refl
 behind_one name other (h ∷ hs) apart =
     still_first name other h hs (is_named name h) refl apart (behind_one name other hs apart)
 
+-- two headers taken out leave the value of a third name
 pub behind_two : (a b other : List ℕ) (hs : List Header) → bytes_eq a other ≡ false → bytes_eq b other ≡ false
     → value_of other (without_first b (without_first a hs)) ≡ value_of other hs
 behind_two a b other hs first second = behind_one b other (without_first a hs) second ∙ behind_one a other hs first
 
+-- three headers taken out leave the value of a fourth name
 pub behind_three : (a b c other : List ℕ) (hs : List Header) → bytes_eq a other ≡ false → bytes_eq b other ≡ false
     → bytes_eq c other ≡ false
     → value_of other (without_first c (without_first b (without_first a hs))) ≡ value_of other hs
@@ -142,6 +146,7 @@ own_behind name (h ∷ hs) used = still_own name h hs (is_named name h) refl use
 
 -- ---- two headers that are required
 
+-- where neither is missing, the second is there
 pub second_is_there : (a b : Option (List ℕ)) → (is_none a || (is_none b || false)) ≡ false → is_some b ≡ true
 second_is_there (Some a) (Some b) none = refl
 second_is_there (Some a) None none = absurd (let k : true ≡ false = none in cc)

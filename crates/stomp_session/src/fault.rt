@@ -24,7 +24,7 @@ pub enum SessionFault {
     /// A command of a server.
     #[error("33 WrongCommand: a server's command")]
     WrongCommand,
-    /// A growth was refused.
+    /// An allocation failed.
     #[error("34 Memory: out of memory")]
     Memory,
     /// A value to be echoed has more than 128 octets, or a SEND more than 28 headers of its own.
@@ -48,7 +48,7 @@ impl SessionFault {
         }
     }
 
-    /// The name of the fault, as an ERROR tells it behind the number.
+    /// The name of the fault, as an ERROR tells it after the number.
     pub fn name(self) -> &'static str
         ensures { result.now ≡ session_fault_name self }
     {

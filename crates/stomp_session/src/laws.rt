@@ -12,7 +12,7 @@ ghost use Rattle.stomp_session.specs.Requests.{receipt_of, request_of};
 ghost use Rattle.stomp_session.specs.declared.fault.SessionFault.TheVariants.{Memory};
 ghost use Rattle.stomp_session.specs.declared.request.Request.{Request};
 
-/// No frame is refused for want of memory: an acceptance takes none.
+/// No frame is refused out of memory: to accept one allocates nothing.
 pub fn accepting_wants_no_memory()
     ensures { (connected : Bool) (f : Content) → request_of connected f ≢ Err Memory }
 {}
@@ -49,7 +49,7 @@ pub fn errors_are_frames()
         → IsFrame MAX_BODY (error_frame number name receipt) }
 {}
 
-/// The MESSAGE of each delivery is a frame: 28 headers of the SEND fit behind those of the server.
+/// The MESSAGE of each delivery is a frame: 28 headers of the SEND fit after those of the server.
 pub fn messages_are_frames()
     ensures { (d : Delivered) → IsTold d → IsFrame MAX_BODY (message_frame d) }
 {}

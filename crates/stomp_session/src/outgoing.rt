@@ -36,7 +36,7 @@ impl Model for Outgoing {
 }
 
 impl Outgoing {
-    /// Nothing. It takes no memory.
+    /// Nothing. It allocates nothing.
     pub fn new(alloc: Global) -> Outgoing
         ensures { result.octets ≡ [] }
     {
@@ -68,7 +68,7 @@ impl Outgoing {
         self.octets.capacity() - self.octets.len()
     }
 
-    /// Takes the first of them away. It takes no memory.
+    /// Takes the first of them away. It allocates nothing.
     pub fn taken(&mut self, count: usize)
         requires { count ≤ length self.old.octets }
         ensures octets { self.new.octets ≡ drop count self.old.octets }
@@ -88,7 +88,7 @@ impl Outgoing {
     /// Makes room for so many more.
     ///
     /// # Errors
-    /// Where the growth was refused.
+    /// If the allocation fails.
     pub fn reserve(&mut self, additional: usize) -> Result<(), AllocError>
         ensures octets { self.new.octets ≡ self.old.octets }
         ensures room { OnOk result (additional ≤ self.new.room) }
@@ -101,7 +101,7 @@ impl Outgoing {
     /// Appends octets, all or none.
     ///
     /// # Errors
-    /// Where a growth was refused; none is where room is left.
+    /// If an allocation fails; none is where room is left.
     pub fn append(&mut self, more: &[u8]) -> Result<(), AllocError>
         ensures ok { OnOk result (self.new.octets ≡ self.old.octets ++ more.now) }
         ensures err { OnErr result (self.new.octets ≡ self.old.octets) }
@@ -114,7 +114,7 @@ impl Outgoing {
     /// Appends the canonical text of a frame, or nothing.
     ///
     /// # Errors
-    /// Where a growth was refused.
+    /// If an allocation fails.
     pub fn write(&mut self, frame: &Frame<MAX_BODY>) -> Result<(), AllocError>
         ensures ok { OnOk result (self.new.octets ≡ self.old.octets ++ canonical frame.now) }
         ensures err { OnErr result (self.new.octets ≡ self.old.octets) }
@@ -128,7 +128,7 @@ impl Outgoing {
     /// Appends CONNECTED, as [`write_connected`](crate::write_connected) does.
     ///
     /// # Errors
-    /// `Memory` where a growth was refused, and then nothing was appended.
+    /// `Memory` if an allocation fails, and then nothing was appended.
     pub fn write_connected(&mut self) -> Result<(), SessionFault>
         ensures { Writes connected_frame self.old.octets self.new.octets result }
     {
@@ -138,7 +138,7 @@ impl Outgoing {
     /// Appends a RECEIPT, as [`write_receipt`](crate::write_receipt) does.
     ///
     /// # Errors
-    /// `Memory` where a growth was refused, and then nothing was appended.
+    /// `Memory` if an allocation fails, and then nothing was appended.
     pub fn write_receipt(&mut self, receipt: &str) -> Result<(), SessionFault>
         ensures { Writes (receipt_frame receipt.now) self.old.octets self.new.octets result }
     {
@@ -148,7 +148,7 @@ impl Outgoing {
     /// Appends an ERROR, as [`write_error`](crate::write_error) does.
     ///
     /// # Errors
-    /// `Memory` where a growth was refused, and then nothing was appended.
+    /// `Memory` if an allocation fails, and then nothing was appended.
     pub fn write_error(
         &mut self,
         alloc: Global,
@@ -165,7 +165,7 @@ impl Outgoing {
     /// Appends a MESSAGE, as [`write_message`](crate::write_message) does.
     ///
     /// # Errors
-    /// `Memory` where a growth was refused, and then nothing was appended.
+    /// `Memory` if an allocation fails, and then nothing was appended.
     pub fn write_message(&mut self, delivery: &Delivery) -> Result<(), SessionFault>
         ensures { Writes (message_frame delivery.now) self.old.octets self.new.octets result }
     {

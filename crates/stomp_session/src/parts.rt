@@ -1,4 +1,4 @@
-//! What a request keeps of its frame: texts, octets and headers, each taken over without memory and given back so.
+//! What a request keeps of its frame: texts, octets and headers, each taken over without memory and returned so.
 
 ghost use Rattle.std.specs.Prelude.{◌≡◌, IfOk};
 ghost use Rattle.std.specs.Str.{bytes_eq};
@@ -45,10 +45,10 @@ impl Text {
         self.as_str() == other.as_str()
     }
 
-    /// The same text in memory of its own.
+    /// An equal text, in memory of its own.
     ///
     /// # Errors
-    /// Where memory is refused.
+    /// If an allocation fails.
     pub fn copy(&self, alloc: Global) -> Result<Text, AllocError>
         ensures { IfOk result (λ text. text ≡ self.now) }
     {
@@ -57,7 +57,7 @@ impl Text {
         })
     }
 
-    /// Its string. It takes no memory.
+    /// The string of the text. It allocates nothing.
     pub fn into_string(self) -> String
         ensures { string_bytes result ≡ self }
     {
@@ -81,7 +81,7 @@ impl Model for Octets {
 }
 
 impl Octets {
-    /// These octets, which it takes over.
+    /// A body of these octets, which it takes over.
     pub fn new(octets: Vec<u8>) -> Octets
         ensures { result ≡ octets.items }
     {
@@ -95,7 +95,7 @@ impl Octets {
         self.octets.as_slice()
     }
 
-    /// The vector of them. It takes no memory.
+    /// The vector of them. It allocates nothing.
     pub fn into_vec(self) -> Vec<u8>
         ensures { result.items ≡ self }
     {
@@ -120,7 +120,7 @@ impl Model for Headers {
 }
 
 impl Headers {
-    /// These headers, which it takes over.
+    /// A list of these headers, which it takes over.
     pub fn new(headers: Vec<Header>) -> Headers
         ensures { result ≡ headers.items }
     {
@@ -134,7 +134,7 @@ impl Headers {
         self.headers.as_slice()
     }
 
-    /// The vector of them. It takes no memory.
+    /// The vector of them. It allocates nothing.
     pub fn into_vec(self) -> Vec<Header>
         ensures { result.items ≡ self }
     {

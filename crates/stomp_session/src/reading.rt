@@ -28,10 +28,11 @@ fn take(headers: &mut Vec<Header>, name: &str) -> Option<Text>
     ensures rest { headers.new.items ≡ without_first name.now headers.old.items }
 {
     let at = place_of(headers, name)?;
+    // Not by swapping: a MESSAGE has the headers that are left in their order.
     Some(Text::new(headers.remove(at).into_value()))
 }
 
-/// The same of a header that is there.
+/// Takes the first header of a name out, which is there, and gives its value.
 fn take_required(headers: &mut Vec<Header>, name: &str) -> Text
     requires { is_some (value_of name.now headers.old.items) ≡ true }
     ensures value { result ≡ unwrap_or (value_of name.now headers.old.items) [] }
@@ -39,6 +40,7 @@ fn take_required(headers: &mut Vec<Header>, name: &str) -> Text
 {
     match take(headers, name) {
         Some(value) => value,
+        // A frame without it was refused before.
         None => unreachable!(),
     }
 }
@@ -47,6 +49,7 @@ fn take_required(headers: &mut Vec<Header>, name: &str) -> Text
 fn own(mut headers: Vec<Header>) -> Headers
     ensures { result ≡ filter is_own headers.items }
 {
+    // What the server writes itself isn't taken over, nor what was for the server alone.
     headers.retain(|header| is_own(header));
     Headers::new(headers)
 }
@@ -142,6 +145,7 @@ fn read_other(command: Command, headers: Vec<Header>) -> Request
     ensures { result ≡ asked (frame command headers.items []) }
 {
     match command {
+        // `read_request` reads a SEND itself.
         Command::Send => unreachable!(),
         Command::Subscribe => Request::Subscribe(subscribe(headers)),
         Command::Unsubscribe => Request::Unsubscribe(unsubscribe(headers)),
@@ -152,6 +156,7 @@ fn read_other(command: Command, headers: Vec<Header>) -> Request
         Command::Abort => Request::Abort(demarcate(headers)),
         Command::Disconnect => Request::Disconnect(disconnect(headers)),
         Command::Connect | Command::Stomp => Request::Connect(connect(headers)),
+        // A server's command was refused before.
         Command::Connected | Command::Message | Command::Receipt | Command::Error => unreachable!(),
     }
 }

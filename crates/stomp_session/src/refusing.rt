@@ -25,6 +25,7 @@ pub fn refusal(connected: bool, frame: &Frame<MAX_BODY>) -> Option<SessionFault>
         Some(SessionFault::MissingHeader)
     } else if is_large(frame) {
         Some(SessionFault::TooLarge)
+        // The version last: a server that refuses it has understood the frame. A missing header was refused above.
     } else if opens && !offers_version(frame.get("accept-version").unwrap_or("")) {
         Some(SessionFault::Version)
     } else {
@@ -97,6 +98,7 @@ fn has_long(frame: &Frame<MAX_BODY>, name: &str) -> bool
     ensures { result ≡ has_long frame.now name.now }
 {
     match frame.get(name) {
+        // Before it's escaped: an eighth of a line, so that it fits any line when it is.
         Some(value) => value.len() > MAX_ECHOED,
         None => false,
     }
@@ -145,6 +147,7 @@ fn is_large(frame: &Frame<MAX_BODY>) -> bool
 pub fn is_own(header: &Header) -> bool
     ensures { result ≡ is_own header.now }
 {
+    // A MESSAGE has these of its server. In mode `auto` that writes no `ack`: a SEND's own would be taken for it.
     !matches!(
         header.name(),
         "destination" | "transaction" | "receipt" | "message-id" | "subscription" | "ack"
@@ -164,6 +167,7 @@ fn has_many_own(headers: &[Header]) -> bool
 {
     // All are counted first: they are seldom so many.
     if headers.len() > MAX_OWN_HEADERS {
+        // 28 of 32: a MESSAGE has four of the server's before them.
         own_count(headers) > MAX_OWN_HEADERS
     } else {
         false
@@ -174,5 +178,6 @@ fn has_many_own(headers: &[Header]) -> bool
 fn offers_version(versions: &str) -> bool
     ensures { result ≡ offers_version versions.now }
 {
+    // Versions stand between commas, without spaces.
     versions.split(',').any(|version| version == "1.2")
 }

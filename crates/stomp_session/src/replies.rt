@@ -36,7 +36,7 @@ fn write(
 /// and no heart-beat.
 ///
 /// # Errors
-/// `Memory` where a growth was refused, and then nothing was appended.
+/// `Memory` if an allocation fails, and then nothing was appended.
 pub fn write_connected(out: &mut Vec<u8>) -> Result<(), SessionFault>
     ensures { Writes connected_frame out.old.items out.new.items result }
 {
@@ -47,7 +47,7 @@ pub fn write_connected(out: &mut Vec<u8>) -> Result<(), SessionFault>
 /// Appends the RECEIPT of a receipt that was asked for (STOMP 1.2, section "RECEIPT").
 ///
 /// # Errors
-/// `Memory` where a growth was refused, and then nothing was appended.
+/// `Memory` if an allocation fails, and then nothing was appended.
 pub fn write_receipt(receipt: &str, out: &mut Vec<u8>) -> Result<(), SessionFault>
     ensures { Writes (receipt_frame receipt.now) out.old.items out.new.items result }
 {
@@ -79,6 +79,7 @@ fn error_headers(
 {
     let message = format!(in alloc; "{number} {name}")?;
     let mut headers = Vec::with_capacity(alloc, 3)?;
+    // A client whose versions don't do is to learn the one that does.
     if number == SessionFault::Version.number() {
         headers.push(Header::new(alloc, "version", "1.2")?)?;
     }
@@ -93,7 +94,7 @@ fn error_headers(
 /// version that would do where that is what was refused, with the receipt if one is told, and with an empty body.
 ///
 /// # Errors
-/// `Memory` where a growth was refused, and then nothing was appended.
+/// `Memory` if an allocation fails, and then nothing was appended.
 pub fn write_error(
     alloc: Global,
     number: u8,
@@ -112,7 +113,7 @@ pub fn write_error(
 pub struct Delivery<'a> {
     /// Where its SEND went.
     pub destination: &'a str,
-    /// Its number.
+    /// The number of the message.
     pub number: u64,
     /// The name of the subscription within its session.
     pub subscription: &'a str,
@@ -172,10 +173,11 @@ fn write_numbered<'a>(
 /// copied once.
 ///
 /// # Errors
-/// `Memory` where a growth was refused, and then nothing was appended.
+/// `Memory` if an allocation fails, and then nothing was appended.
 pub fn write_message(delivery: &Delivery, out: &mut Vec<u8>) -> Result<(), SessionFault>
     ensures { Writes (message_frame delivery.now) out.old.items out.new.items result }
 {
+    // A quick way for most MESSAGEs. Both ways write the same octets.
     if is_plain_message(delivery) {
         write_plain(delivery, out)?;
         return Ok(());

@@ -22,7 +22,7 @@ pub struct Send {
     pub destination: Text,
     /// The headers that its MESSAGEs take over, in order.
     pub headers: Headers,
-    /// Its body.
+    /// The body of the message.
     pub body: Octets,
     /// The transaction that it belongs to.
     pub transaction: Option<Text>,
@@ -33,7 +33,7 @@ pub struct Send {
 /// A subscription to a destination begins.
 #[derive(Debug, Drop)]
 pub struct Subscribe {
-    /// Its name within the session.
+    /// The subscription's name within the session.
     pub id: Text,
     /// Where it listens.
     pub destination: Text,
@@ -60,7 +60,7 @@ impl Subscribe {
 /// A subscription ends.
 #[derive(Debug, Drop)]
 pub struct Unsubscribe {
-    /// Its name within the session.
+    /// The subscription's name within the session.
     pub id: Text,
     /// The receipt that is asked for.
     pub receipt: Option<Text>,
@@ -80,7 +80,7 @@ pub struct Acknowledge {
 /// A transaction begins or ends: the frame BEGIN, COMMIT or ABORT.
 #[derive(Debug, Drop)]
 pub struct Demarcate {
-    /// Its name within the session.
+    /// The transaction's name within the session.
     pub transaction: Text,
     /// The receipt that is asked for.
     pub receipt: Option<Text>,
@@ -106,7 +106,7 @@ pub enum Request {
     Unsubscribe(Unsubscribe),
     /// A delivery is acknowledged.
     Ack(Acknowledge),
-    /// A delivery is given back.
+    /// A delivery isn't handled: its message is ready again.
     Nack(Acknowledge),
     /// A transaction begins.
     Begin(Demarcate),

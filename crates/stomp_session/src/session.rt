@@ -11,7 +11,7 @@ use base::limits::MAX_BODY;
 use std::marker::Model;
 use stomp_frame::Frame;
 
-/// A frame that was refused, given back, and why.
+/// A frame that was refused, returned, and why.
 #[derive(Debug, Drop)]
 pub struct Refused {
     /// The first fault that applies.
@@ -75,10 +75,10 @@ impl ServerSession {
 
     /// What a client frame asks. After CONNECT or STOMP the session is connected.
     ///
-    /// It takes no memory, and so never fails for want of it: the request is made of the frame's own parts.
+    /// It allocates nothing, and so never fails for want of it: the request is made of the frame's own parts.
     ///
     /// # Errors
-    /// The first that applies; then the frame is given back, and nothing has changed:
+    /// The first that applies; then the frame is returned, and nothing has changed:
     /// - `WrongCommand` for a command of a server;
     /// - `NotConnected` for another than CONNECT or STOMP before one of these, `AlreadyConnected` for one of these
     ///   after it;
@@ -91,6 +91,7 @@ impl ServerSession {
         if let Some(fault) = refusal(self.connected, &frame) {
             return Err(Refused { fault, frame });
         }
+        // Whatever it is: before CONNECT nothing else is accepted.
         *self = ServerSession { connected: true };
         Ok(read_request(frame))
     }

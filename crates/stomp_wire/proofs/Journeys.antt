@@ -44,6 +44,7 @@ take_keeps most put taken before after (Some w) (Some c) (Some d) (Ok n) kept is
 take_keeps most put taken before after (Some w) (Some c) (Some d) (Err fault) kept is =
     rw (kept, is.0, is.1) (grind (arith, common_steps))
 
+-- what was put is what was taken, then what was carried, then what waits
 pub travels_keep : (put taken : List ℕ) (waiting carried : Option (List ℕ)) → Travels put taken waiting carried
     → IsKept put taken waiting carried
 travels_keep [] [] (Some []) (Some []) begins = refl
@@ -53,6 +54,7 @@ travels_keep _ _ _ _ (carries moved so_far gone come) =
 travels_keep _ _ _ _ (takes most before after answer so_far is) =
     take_keeps most _ _ before after _ _ _ answer (travels_keep _ _ _ _ so_far) is
 
+-- what was taken is a beginning of what was put
 pub kept_begins : (put taken : List ℕ) (waiting carried : Option (List ℕ)) → IsKept put taken waiting carried
     → StartsWith put taken
 kept_begins put taken None carried kept = absurd kept

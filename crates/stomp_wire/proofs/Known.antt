@@ -10,6 +10,7 @@ pub Keeps-same : (known : Option (List ℕ)) → Keeps known known
 Keeps-same None = tt
 Keeps-same (Some xs) = refl
 
+-- what stays known twice stays known
 pub Keeps-twice : (first second third : Option (List ℕ)) → Keeps first second → Keeps second third → Keeps first third
 Keeps-twice None second third kept again = tt
 Keeps-twice (Some xs) None third kept again = absurd kept
@@ -20,6 +21,7 @@ pub Appends-none : (known : Option (List ℕ)) → Appends known known []
 Appends-none None = tt
 Appends-none (Some xs) = search rules
 
+-- what was added and then stays known was added
 pub Appends-kept : (first second third : Option (List ℕ)) (more : List ℕ) → Appends first second more
     → Keeps second third
     → Appends first third more

@@ -12,7 +12,7 @@ pub enum LinkFault {
     /// A read or a write failed. It was counted.
     #[error("2 Device: a read or a write failed")]
     Device,
-    /// A growth was refused. Nothing was changed, and nothing was counted.
+    /// An allocation failed. Nothing was changed, and nothing was counted.
     #[error("3 Memory: out of memory")]
     Memory,
 }

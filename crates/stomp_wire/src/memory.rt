@@ -10,7 +10,7 @@ use std::marker::Model;
 /// that were carried to it wait until they are taken.
 ///
 /// Contracts see its two queues: `waiting`, what it put and nobody carried yet, and `carried`, what was carried to it
-/// and it didn't take yet. It never fails but for want of memory.
+/// and it didn't take yet. It never fails unless an allocation does.
 ///
 /// Both queues are plain vectors, so that they can be looked at as slices. What leaves a queue costs a move of the
 /// rest.
@@ -56,7 +56,7 @@ impl MemoryLink {
     }
 
     /// Takes away the first `count` of the octets that were carried to this end, which its owner looked at in place. It
-    /// takes no memory.
+    /// allocates nothing.
     pub fn taken(&mut self, count: usize)
         requires { count ≤ length self.old.carried }
         ensures { self.new ≡ record self.old { carried = drop count self.old.carried } }
@@ -65,7 +65,7 @@ impl MemoryLink {
     }
 
     /// Takes away the first `count` of the octets that wait here, which went out from where they stood, as `waiting`
-    /// shows them. It takes no memory.
+    /// shows them. It allocates nothing.
     pub fn sent(&mut self, count: usize)
         requires { count ≤ length self.old.waiting }
         ensures { self.new ≡ record self.old { waiting = drop count self.old.waiting } }
@@ -80,6 +80,7 @@ impl MemoryLink {
         ensures { IsCarried most self.old to.old self.new to.new result }
     {
         let count = most.min(self.waiting.len());
+        // Appended before they leave this end: where that fails no octet is lost.
         to.carried.extend_from_slice(&self.waiting[..count])?;
         self.sent(count);
         Ok(count)
@@ -113,6 +114,7 @@ impl Link for MemoryLink {
     /// Takes the first `most` octets that were carried here, or all where there are fewer. Its one fault is `Memory`.
     fn take(&mut self, into: &mut Vec<u8>, most: usize) -> Result<usize, LinkFault> {
         let count = most.min(self.carried.len());
+        // Appended before they are taken away: where that fails they stay.
         into.extend_from_slice(&self.carried[..count])?;
         self.taken(count);
         Ok(count)

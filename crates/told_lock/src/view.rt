@@ -77,7 +77,7 @@ impl<T> Lesson<T, Known<T>> for Begins<T> {
     ghost fact = { λ v items. ⊤ };
 }
 
-/// It is taken for the first time.
+/// The value is taken for the first time.
 pub struct Enters<T> {
     of: PhantomData<T>,
 }
@@ -111,7 +111,7 @@ impl<T, L: Lore<T>> Lesson<T, Known<T>> for Takes<T, L> {
     ghost fact = { λ v items. ⊤ };
 }
 
-/// The lock is given back, and the value was seen.
+/// The lock is returned, and the value was seen.
 pub struct Sees<T> {
     of: PhantomData<T>,
 }
@@ -128,7 +128,7 @@ impl<T> Lesson<T, Known<T>> for Sees<T> {
     ghost fact = { λ v items. ⊤ };
 }
 
-/// The lock is given back, and what was seen stays.
+/// The lock is returned, and what was seen stays.
 pub struct Stays<T> {
     of: PhantomData<T>,
 }

@@ -129,6 +129,7 @@ phase_changes p o n ls held none same = by_line (line_of o ls) refl held
 abbrev pub IsGiven : {S : Type 0} → Holding S → Type 0
 IsGiven {S} h = (x : S) (ls : List Line) → h.lines (h.with_lines x ls) ≡ ls
 
+-- a request of an order without a line changes the lines
 pub request_changes : {S : Type 0} (h : Holding S) → IsGiven h → (x : S) (o : Entity) (n : ℕ)
     → line_of o (h.lines x) ≡ None
     → h.lines (on_request h x o n).0 ≢ h.lines x
@@ -138,11 +139,13 @@ request_changes h given x o n none same = by_case (h.fits x n) refl
     by_case true e = line_changes _ _ none (sym (given _ _) ∙ rw e at same)
     by_case false e = line_changes _ _ none (sym (given _ _) ∙ rw e at same)
 
+-- to finish what is held changes the lines
 pub finish_changes : {S : Type 0} (h : Holding S) → IsGiven h → (x : S) (o : Entity) (n : ℕ)
     → held_by (line_of o (h.lines x)) ≡ Some n
     → h.lines (finished_for h x o n) ≢ h.lines x
 finish_changes h given x o n held same = phase_changes Done o n (h.lines x) held refl (sym (given _ _) ∙ same)
 
+-- to free what is held changes the lines
 pub free_changes : {S : Type 0} (h : Holding S) → IsGiven h → (x : S) (o : Entity) (n : ℕ)
     → held_by (line_of o (h.lines x)) ≡ Some n
     → h.lines (freed_for h x o n) ≢ h.lines x

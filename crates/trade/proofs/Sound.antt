@@ -155,6 +155,7 @@ order_kept : (x : Option OrderState) (input : Input OrderCommand) → IsOrderSou
 order_kept x (FromSeat seat c) h = order_command x seat c h
 order_kept x (FromEntity s number m) h = order_message x s m h
 
+-- whatever an order takes in, it stays sound
 pub orders-invariant : IsInvariant order_reactions IsOrderSound
 orders-invariant = record { opening = tt; kept = order_kept }
 
@@ -239,6 +240,7 @@ stock_kept x (FromSeat seat (Receive n)) h = by_case (n == 0 || nat_lt 109951162
           lines = h.lines;
         })
 
+-- whatever a stock takes in, it stays sound
 pub stocks-invariant : IsInvariant stock_reactions IsStockSound
 stocks-invariant = record {
   opening = record {
@@ -324,6 +326,7 @@ account_kept x (FromSeat seat (SetLimit n)) h =
         let small : n ≤ 1099511627776 = grind (arith, nat_tests) in
         rw (e, f) (record { bounded = small; covered = fits; held = h.held; billed = h.billed; lines = h.lines })
 
+-- whatever an account takes in, it stays sound
 pub accounts-invariant : IsInvariant account_reactions IsAccountSound
 accounts-invariant = record {
   opening =

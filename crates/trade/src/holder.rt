@@ -14,13 +14,13 @@ use std::alloc::{AllocError, Global};
 
 /// A stock or an account: what an order asks for is held, where it fits, until it is finished or freed.
 pub trait Holder {
-    /// Its lines, what fits, and what changes besides the lines.
+    /// The holder's lines, what fits, and what changes besides the lines.
     ghost holding: { Holding Self };
 
     /// The lines that a state is given are its lines.
     ghost given: { (x : Self) (ls : List Line) → holding.lines (holding.with_lines x ls) ≡ ls };
 
-    /// Its lines.
+    /// The holder's lines.
     fn lines(&self) -> &Lines
         ensures { result.now ≡ holding.lines self.now };
 
@@ -31,7 +31,7 @@ pub trait Holder {
     /// Holds so much for an order that has no line.
     ///
     /// # Errors
-    /// Where a growth was refused; nothing has changed then.
+    /// If an allocation fails; nothing has changed then.
     fn hold(&mut self, order: Entity, number: Number) -> Result<(), AllocError>
         requires order { order.kind ≡ Order }
         requires new { line_of order (holding.lines self.old) ≡ None }
@@ -42,7 +42,7 @@ pub trait Holder {
     /// Refuses so much to an order that has no line.
     ///
     /// # Errors
-    /// Where a growth was refused; nothing has changed then.
+    /// If an allocation fails; nothing has changed then.
     fn refuse(&mut self, order: Entity, number: Number) -> Result<(), AllocError>
         requires order { order.kind ≡ Order }
         requires new { line_of order (holding.lines self.old) ≡ None }
@@ -52,7 +52,7 @@ pub trait Holder {
     /// Finishes what is held for an order: it is shipped, or billed.
     ///
     /// # Errors
-    /// Where a growth was refused; nothing has changed then.
+    /// If an allocation fails; nothing has changed then.
     fn finish(&mut self, order: &Entity, number: Number) -> Result<(), AllocError>
         requires { held_by (line_of order.now (holding.lines self.old)) ≡ Some number }
         ensures ok { OnOk result (self.new ≡ finished_for holding self.old order.now number) }
@@ -61,7 +61,7 @@ pub trait Holder {
     /// Frees what is held for an order.
     ///
     /// # Errors
-    /// Where a growth was refused; nothing has changed then.
+    /// If an allocation fails; nothing has changed then.
     fn free(&mut self, order: &Entity, number: Number) -> Result<(), AllocError>
         requires { held_by (line_of order.now (holding.lines self.old)) ≡ Some number }
         ensures ok { OnOk result (self.new ≡ freed_for holding self.old order.now number) }
@@ -72,7 +72,7 @@ pub trait Holder {
 /// and anything else changes nothing.
 ///
 /// # Errors
-/// Where a growth was refused for a line that changes; nothing has changed then. What changes no line wants no memory.
+/// If an allocation fails for a line that changes; nothing has changed then. What changes no line wants no memory.
 pub fn take_line_message<H: Holder>(
     alloc: Global,
     holder: &mut H,
@@ -85,7 +85,7 @@ pub fn take_line_message<H: Holder>(
 {
     match message {
         Message::Request(number) => {
-            // A line is a request's trace: one that comes again was answered, and one that was released isn't held
+            // A line is a request's trace: one that is redelivered was answered, and one that was released isn't held
             // anew.
             if sender.kind() != Kind::Order || holder.lines().find(sender).is_some() {
                 return Ok(());
@@ -93,6 +93,7 @@ pub fn take_line_message<H: Holder>(
             ask(alloc, holder, sender, number, outs)?;
         }
         Message::Confirm => {
+            // Nothing is held where the message is a duplicate, or the order was refused: then it changes nothing.
             if let Some(number) = holder.lines().held_for(sender) {
                 holder.finish(sender, number)?;
             }

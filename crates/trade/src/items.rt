@@ -21,7 +21,7 @@ impl Item {
     /// An equal item, in memory of its own.
     ///
     /// # Errors
-    /// Where a growth was refused.
+    /// If an allocation fails.
     pub fn copy(&self, alloc: Global) -> Result<Item, AllocError>
         ensures { IfOk result (λ i. i ≡ self.now) }
     {
@@ -48,17 +48,17 @@ impl Model for Items {
 }
 
 impl Items {
-    /// These items.
+    /// A list of these items.
     pub fn from_vec(items: Vec<Item>) -> Items
         ensures { result ≡ items.items }
     {
         Items { items }
     }
 
-    /// One item: so much of a stock.
+    /// A list of one item: so much of a stock.
     ///
     /// # Errors
-    /// Where a growth was refused.
+    /// If an allocation fails.
     pub fn of_one(alloc: Global, stock: Key, quantity: u64) -> Result<Items, AllocError>
         ensures { IfOk result (λ i. i ≡ item stock quantity ∷ []) }
     {
@@ -67,7 +67,7 @@ impl Items {
         Ok(Items { items })
     }
 
-    /// All of them, in order.
+    /// All items, in order.
     pub fn as_slice(&self) -> &[Item]
         ensures value { result.now ≡ self.now }
         ensures room { length result.now < 2 ^ 63 }
@@ -78,7 +78,7 @@ impl Items {
     /// Equal items, in memory of their own.
     ///
     /// # Errors
-    /// Where a growth was refused.
+    /// If an allocation fails.
     pub fn copy(&self, alloc: Global) -> Result<Items, AllocError>
         ensures { IfOk result (λ i. i ≡ self.now) }
     {
@@ -90,6 +90,7 @@ impl Items {
     pub fn are_lines(&self) -> bool
         ensures { result ≡ are_lines self.now }
     {
+        // The number first: at most eight items are compared with each other.
         !self.items.is_empty() && self.items.len() <= MAX_LINES && are_apart(&self.items)
     }
 
@@ -125,7 +126,7 @@ fn has_stock(stock: &Key, items: &[Item]) -> bool
 fn are_apart(items: &[Item]) -> bool
     ensures { result ≡ are_apart items.now }
 {
-    // Each is compared with those behind it, and not put into a set: a set wants memory, and of those that count there
+    // Each is compared with those after it, and not put into a set: a set wants memory, and of those that count there
     // are eight.
     let mut rest = items;
     while let Some((first, others)) = rest.split_first() {

@@ -1,7 +1,7 @@
 //! The business of the three services: what seats can ask of orders, stocks and accounts, the lines that stocks and
-//! accounts have, and what each of the three does with what it takes in.
+//! accounts have, and what each of the three does with what it processes.
 //!
-//! Orders, stocks and accounts stay sound whatever they take in: `orders_stay_sound`, `stocks_stay_sound` and
+//! Orders, stocks and accounts stay sound whatever they process: `orders_stay_sound`, `stocks_stay_sound` and
 //! `accounts_stay_sound`. The code of the three is in the crates `purchasing`, `warehouse` and `billing`.
 //!
 //! ```rust

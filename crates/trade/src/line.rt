@@ -9,7 +9,7 @@ use base::{Entity, Number};
 use std::alloc::{AllocError, Global};
 use std::marker::Model;
 
-/// For which order, for how much, and how far it is.
+/// A line: for which order, for how much, and how far it is.
 #[derive(Debug, Drop)]
 pub struct Line {
     order: Entity,
@@ -61,7 +61,7 @@ impl Line {
     /// An equal line, in memory of its own.
     ///
     /// # Errors
-    /// Where a growth was refused.
+    /// If an allocation fails.
     pub fn copy(&self, alloc: Global) -> Result<Line, AllocError>
         ensures { IfOk result (λ l. l ≡ self.now) }
     {
@@ -72,7 +72,7 @@ impl Line {
         })
     }
 
-    /// What it adds to the total of a phase.
+    /// What the line adds to the total of a phase.
     pub(crate) fn share_of(&self, phase: LinePhase) -> u64
         ensures share { result ≡ share_of phase self.now }
         ensures small { result ≤ MAX_NUMBER }
@@ -87,7 +87,7 @@ impl Line {
     /// The line in this phase.
     ///
     /// # Errors
-    /// Where a growth was refused.
+    /// If an allocation fails.
     pub(crate) fn in_phase(&self, alloc: Global, phase: LinePhase) -> Result<Line, AllocError>
         ensures { IfOk result (λ l. l ≡ record self.now { phase = phase }) }
     {

@@ -14,7 +14,7 @@ pub enum LinePhase {
     Refused,
     /// It is shipped, or billed.
     Done,
-    /// It was given back.
+    /// It was returned.
     Released,
 }
 
@@ -32,7 +32,7 @@ impl LinePhase {
         )
     }
 
-    /// Its word at a stock: `held`, `refused`, `shipped` or `released`.
+    /// The phase's word at a stock: `held`, `refused`, `shipped` or `released`.
     pub fn stock_word(self) -> &'static str
         ensures { result.now ≡ stock_line_word self }
     {
@@ -57,7 +57,7 @@ impl LinePhase {
         }
     }
 
-    /// Its word at an account: `held`, `refused`, `billed` or `released`.
+    /// The phase's word at an account: `held`, `refused`, `billed` or `released`.
     pub fn account_word(self) -> &'static str
         ensures { result.now ≡ account_line_word self }
     {

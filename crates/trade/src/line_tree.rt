@@ -13,7 +13,7 @@ use std::cmp::Ordering;
 use std::fmt::{self, DebugList};
 use std::sync::Arc;
 
-/// Lines: none; or those before a line, the line, how high the tree is, and those behind the line.
+/// Lines: none; or those before a line, the line, how high the tree is, and those after the line.
 ///
 /// The height is a hint: where it isn't exact a search takes longer, and finds the same.
 #[derive(Drop)]
@@ -42,18 +42,19 @@ pub(crate) fn find<'a>(tree: &'a Tree, order: &Entity) -> Option<&'a Line>
 /// The tree of one line.
 ///
 /// # Errors
-/// Where a growth was refused.
+/// If an allocation fails.
 pub(crate) fn of_one(alloc: Global, line: Arc<Line>) -> Result<Arc<Tree>, AllocError>
     ensures { IfOk result (λ t. items t.value ≡ line.value ∷ []) }
 {
     let leaf = Arc::new(alloc, Tree::Leaf)?;
+    // One leaf serves on both sides.
     node(alloc, leaf.clone()?, line, leaf)
 }
 
 /// The tree with one more line, in its place.
 ///
 /// # Errors
-/// Where a growth was refused.
+/// If an allocation fails.
 #[tactic(auto, using(crate::proofs::Placing::adding))]
 pub(crate) fn with_line(
     alloc: Global,
@@ -71,6 +72,7 @@ pub(crate) fn with_line(
                 let left = with_line(alloc, left, line)?;
                 join(alloc, left, here.clone()?, right.clone()?)
             }
+            // Equal never comes up: an order has one line at most.
             Ordering::Equal | Ordering::Greater => {
                 let right = with_line(alloc, right, line)?;
                 join(alloc, left.clone()?, here.clone()?, right)
@@ -82,7 +84,7 @@ pub(crate) fn with_line(
 /// The tree, with this phase for the order's line.
 ///
 /// # Errors
-/// Where a growth was refused.
+/// If an allocation fails.
 #[tactic(auto, using(crate::proofs::Placing::changing))]
 pub(crate) fn with_phase(
     alloc: Global,
@@ -98,6 +100,7 @@ pub(crate) fn with_phase(
         Tree::Node(left, line, height, right) => match order.cmp(line.as_ref().order()) {
             Ordering::Less => {
                 let left = with_phase(alloc, left, order, phase)?;
+                // The shape stays, and so does the height.
                 kept(alloc, left, line.clone()?, *height, right.clone()?)
             }
             Ordering::Equal => {
@@ -124,10 +127,10 @@ pub(crate) fn total(tree: &Tree, phase: LinePhase) -> Option<u64>
     }
 }
 
-/// Puts copies of all lines behind others, in order.
+/// Puts copies of all lines after others, in order.
 ///
 /// # Errors
-/// Where a growth was refused.
+/// If an allocation fails.
 pub(crate) fn push_all(alloc: Global, tree: &Tree, lines: &mut Vec<Line>) -> Result<(), AllocError>
     ensures { OnOk result (lines.new.items ≡ lines.old.items ++ items tree.now) }
 {
@@ -216,12 +219,14 @@ fn lean_right(
     ensures { IfOk result (λ t. items t.value ≡ items left.value ++ line.value ∷ items right.value) }
 {
     let Tree::Node(outer, first, _, inner) = left.as_ref() else {
+        // Never so, since a tree that is too high has a line. No proof needs that: the lines would be the same.
         return node(alloc, left, line, right);
     };
     if height(outer.as_ref()) >= height(inner.as_ref()) {
         let right = node(alloc, inner.clone()?, line, right)?;
         return node(alloc, outer.clone()?, first.clone()?, right);
     }
+    // The inner part is the high one: moved as a whole it would make the other side too high.
     let Tree::Node(before, second, _, behind) = inner.as_ref() else {
         return node(alloc, left.clone()?, line, right);
     };
@@ -246,6 +251,7 @@ fn lean_left(
         let left = node(alloc, left, line, inner.clone()?)?;
         return node(alloc, left, last.clone()?, outer.clone()?);
     }
+    // The inner part is the high one: moved as a whole it would make the other side too high.
     let Tree::Node(before, second, _, behind) = inner.as_ref() else {
         return node(alloc, left, line, right.clone()?);
     };

@@ -16,7 +16,7 @@ pub enum Status {
 }
 
 impl Status {
-    /// Its word: `open`, `confirmed` or `cancelled`.
+    /// The status's word: `open`, `confirmed` or `cancelled`.
     pub fn word(self) -> &'static str
         ensures { result.now ≡ status_word self }
     {

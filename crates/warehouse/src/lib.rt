@@ -1,9 +1,9 @@
-//! Stocks: what the service warehouse does with what they take in.
+//! Stocks: what the service warehouse does with what they process.
 //!
 //! The code is the table of stocks' reactions: what an order asks for is held where enough is there and free, and
 //! refused where not; a confirm ships what is held, and a cancel sets it free. Nothing that came in is lost or used
-//! twice, whatever comes. After a refusal or want of memory nothing has changed, and only what changes a line wants
-//! memory.
+//! twice, whatever comes. After a refusal, or if an allocation fails, nothing has changed, and only what changes a line
+//! allocates.
 //!
 //! ```rust
 //! pub fn so_much_is_on_hand(alloc: Global, quantity: u64) -> Result<u64, HandlerFault> {

@@ -71,10 +71,12 @@ impl Stock {
             (λ s. (s ≡ record { on_hand = on_hand; held = held; shipped = shipped; received = received; lines = lines })
             × IsStockSound s) }
     {
+        // In this order: each difference is of numbers that were compared before it.
         if received > MAX_NUMBER
             || on_hand > received
             || shipped != received - on_hand
             || held > on_hand
+            // The totals last: they go through all lines.
             || lines.total(LinePhase::Held) != Some(held)
             || lines.total(LinePhase::Done) != Some(shipped)
         {
@@ -118,7 +120,7 @@ impl Stock {
         self.received
     }
 
-    /// An equal stock, which shares its lines with this one. It takes no memory.
+    /// An equal stock, which shares its lines with this one. It allocates nothing.
     ///
     /// # Errors
     /// Where the lines have too many owners to count: 2^63 - 1.
@@ -139,6 +141,7 @@ impl Stock {
         ensures { MatchResult result (λ _. on_stock_command self.old (Receive quantity) ≡ Ok (self.new, []))
             (λ refusal. (on_stock_command self.old (Receive quantity) ≡ Err refusal) × (self.new ≡ self.old)) }
     {
+        // By the difference: the sum of the two could overflow.
         if quantity == 0 || quantity > MAX_NUMBER - self.received {
             return Err(Refusal::OutOfRange);
         }
@@ -169,21 +172,25 @@ impl Holder for Stock {
     }
 
     fn fits(&self, number: Number) -> bool {
+        // A stock holds no more than is on hand, so the difference is there.
         number.get() <= self.on_hand - self.held
     }
 
     fn hold(&mut self, order: Entity, number: Number) -> Result<(), AllocError> {
+        // The line first: it allocates, and where that fails the numbers are as they were.
         self.lines.insert(order, number, LinePhase::Held)?;
         self.held += number.get();
         Ok(())
     }
 
     fn refuse(&mut self, order: Entity, number: Number) -> Result<(), AllocError> {
+        // A refused order has a line too: a request that is redelivered finds it, and isn't answered anew.
         self.lines.insert(order, number, LinePhase::Refused)?;
         Ok(())
     }
 
     fn finish(&mut self, order: &Entity, number: Number) -> Result<(), AllocError> {
+        // The line first: it allocates, and where that fails the numbers are as they were.
         self.lines.set_phase(order, LinePhase::Done)?;
         let number = number.get();
         self.on_hand -= number;

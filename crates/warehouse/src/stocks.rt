@@ -15,7 +15,7 @@ use trade::{StockCommand, take_line_message};
 /// What warehouse does with what its stocks take in.
 ///
 /// A stock holds what an order asks for where enough is there and free, and keeps a line for the order: held, and then
-/// shipped or released; or refused. Only what changes a line wants memory.
+/// shipped or released; or refused. Only what changes a line allocates.
 pub struct Stocks;
 
 impl Handler for Stocks {

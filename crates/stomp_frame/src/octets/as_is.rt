@@ -47,6 +47,7 @@ fn is_as_is_by_16(text: &[u8]) -> bool
     ensures { result ≡ is_as_is text.now }
 {
     let mut at = 0;
+    // Not at 16 that are left: these are looked at below in any case.
     while 16 < text.len() - at {
         if !are_as_is(u8x16::from_slice(&text[at..])) {
             return false;
