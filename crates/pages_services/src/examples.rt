@@ -1,13 +1,16 @@
 //! One example for the page of each library that needs neither a schedule nor SQL.
 
-ghost use Rattle.std.specs.Prelude.{◌≡◌, ◌≤◌, true, List, Option};
+ghost use Rattle.std.specs.Prelude.{◌≡◌, ◌≤◌, Bool, true, List, Option};
 ghost use Rattle.laws_broker.specs.Runs.{NoLifeLosesAny};
 ghost use Rattle.laws_broker.specs.Carried.{ReadMessagesWereSent};
 ghost use Rattle.envelope.specs.declared.message.Envelope.{Envelope};
 ghost use Rattle.keep.specs.Tables.{Tables};
+ghost use Rattle.laws_delivery.specs.Good.{IsRunAmong, AllDelivered};
+ghost use Rattle.laws_delivery.specs.Two.{Two};
 ghost use Rattle.laws_lives.specs.Posts.{post_of};
 ghost use Rattle.laws_services.specs.Frames.{CarriesWritten};
 ghost use Rattle.laws_services.specs.Lives.{Post, both_lives, HasLived};
+ghost use Rattle.laws_services.specs.Services.{Traffic};
 ghost use Rattle.laws_services.specs.Steps.{IsFounded, Does};
 ghost use Rattle.laws_stores.specs.Deeds.{DeedOfOne};
 ghost use Rattle.laws_stores.specs.Good.{HoldsAuthentic, journals_of};
@@ -318,6 +321,29 @@ where
         Does K.seen H.service (IsFounded written) own.old own.new }
 {
     frames_are_steps::<H, K>();
+    take_frame(alloc, own, client, frame)
+}
+
+pub fn letters_stay_delivered<H, K, G, L>(
+    alloc: Global,
+    own: &mut Endpoint<H, K>,
+    client: &mut ClientSession<u64>,
+    frame: Frame<MAX_BODY>,
+) -> Result<Taken, Untaken>
+where
+    H: Handler,
+    K: Keep<State = H::State, Command = H::Command> + Drop,
+    G: Handler,
+    L: Keep<State = G::State, Command = G::Command>,
+    ensures { (pairs : Pair → Bool) (first : Two K L) (partner : L) (traffic : Traffic) →
+        IsRunAmong K.seen L.seen H.service G.service pairs first
+        (record { left = own.old; right = partner; traffic = traffic }) →
+        CarriesWritten traffic.written frame → (K.seen own.new).doubt ≡ 0 →
+        AllDelivered K.seen L.seen H.service G.service pairs
+        (record { left = own.new; right = partner; traffic = traffic }) }
+{
+    frames_are_steps::<H, K>();
+    laws_delivery::any_two_services_deliver::<H, K, G, L>();
     take_frame(alloc, own, client, frame)
 }
 
