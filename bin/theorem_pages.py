@@ -17,7 +17,7 @@ from theorem_sources import fail, plain, read
 
 FOLDER = "bin/theorem_words"
 # the pages, in the order in which they are read
-NAMES = ("theorem", "store", "service", "events", "mail", "journals", "any-broker", "program", "files", "threads", "broker")
+NAMES = ("theorem", "store", "service", "events", "mail", "journals", "any-broker", "delivery", "program", "files", "threads", "broker")
 
 
 def blocks_of(lines):
