@@ -11,5 +11,6 @@ played_broker, mutated_service    the broker of a service, played by the script
 allocations, alloc.c        runs in which one allocation fails
 brokers, proxy, seats, lives, damages    of the services that are killed: their brokers, the proxy between, who gives commands, all of
                             these from a start to an end, damaged files
+hotels, hotel_damages, hotel_help.txt    a hotel with its partners, and what it prints of itself
 power, power.c              what programs write to their files, and what is left of it after a power cut
 """

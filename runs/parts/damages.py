@@ -164,9 +164,14 @@ DAMAGES = {
 }
 
 
-def try_damages(folder, target):
-    """Each damage is found, or `Wrong`."""
-    for name, damage in DAMAGES.items():
+def check_at_rest(folder):
+    check_folder(folder, at_rest=True)
+
+
+def try_damages(folder, target, damages=None, judge=check_at_rest):
+    """Each damage of a copy of a folder is found by its judge, or `Wrong`: how many there are."""
+    damages = damages or DAMAGES
+    for name, damage in damages.items():
         shutil.rmtree(target, ignore_errors=True)
         target.mkdir(parents=True)
         for path in folder.iterdir():
@@ -177,9 +182,10 @@ def try_damages(folder, target):
         except (ValueError, StopIteration):
             raise Wrong(f"there is nothing to damage where {name}: more kills are needed") from None
         try:
-            check_folder(target, at_rest=True)
+            judge(target)
         except Wrong as wrong:
             print(f"found  {name}: {str(wrong)[:150]}", flush=True)
         else:
             raise Wrong(f"not found: {name}")
-    print(f"{len(DAMAGES)} damages, each found", flush=True)
+    print(f"{len(damages)} damages, each found", flush=True)
+    return len(damages)

@@ -33,12 +33,13 @@ class Proxy:
     """Listens on a port of its own. With a seed it disturbs: what it does is picked by the seed, and depends on the octets that come.
 
     `mean` is how many octets a connection carries each way, on average, before it's cut; with 0 none is cut. A proxy that doesn't disturb
-    keeps the octets of each connection.
+    keeps the octets of each connection. While `is_withholding`, what services write doesn't reach the broker.
     """
 
     def __init__(self, port, seed=None, mean=0):
         self.port_there, self.seed, self.mean, self.is_calm = port, seed, mean, seed is None
         self.connections, self.open, self.cuts, self.stalls, self.lock = [], set(), 0, 0, threading.Lock()
+        self.is_withholding = False
         self.listener = socket.create_server(("127.0.0.1", 0), backlog=64)
         self.port = self.listener.getsockname()[1]
         threading.Thread(target=self.accept, daemon=True).start()
@@ -77,7 +78,8 @@ class Proxy:
                             self.cuts += 1
                             return self.close(one, dice.random() < 0.5)
                         left -= len(octets)
-                target.sendall(octets)
+                if not (self.is_withholding and source is one.ends[0]):
+                    target.sendall(octets)
         except OSError:
             pass
         return self.close(one)

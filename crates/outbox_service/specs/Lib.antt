@@ -1,5 +1,1 @@
-pub mod Backoffs
-pub mod Faults
-pub mod Input
-pub mod Lives
-pub mod Silences
+pub mod Commands

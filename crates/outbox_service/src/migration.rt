@@ -1,11 +1,10 @@
 //! A file of version 1, taken over.
 
-use crate::fault::RunFault;
 use billing::Accounts;
 use keep::KeepFault;
 use keep_sqlite::{Filed, Migrated, SqliteKeep, TerminalProgress};
 use purchasing::Orders;
-use schedule_text::ServiceName;
+use service_program::RunFault;
 use sqlite::{FileFrom, FileStore, Unknown};
 use streams::write_octets;
 use warehouse::Stocks;
@@ -40,12 +39,10 @@ fn take_over_of<H: Filed>(host: &HostRuntime, path: &str, line: &str) -> Result<
 ///
 /// # Errors
 /// Where it can't be taken over: it's as it was. `Device` where standard output failed.
-pub fn take_over(host: &HostRuntime, service: ServiceName, path: &str) -> Result<(), RunFault> {
+pub fn take_over(host: &HostRuntime, service: &str, path: &str) -> Result<(), RunFault> {
     match service {
-        ServiceName::Purchasing => {
-            take_over_of::<Orders>(host, path, "migrated purchasing 1 2\n")
-        }
-        ServiceName::Warehouse => take_over_of::<Stocks>(host, path, "migrated warehouse 1 2\n"),
-        ServiceName::Billing => take_over_of::<Accounts>(host, path, "migrated billing 1 2\n"),
+        "warehouse" => take_over_of::<Stocks>(host, path, "migrated warehouse 1 2\n"),
+        "billing" => take_over_of::<Accounts>(host, path, "migrated billing 1 2\n"),
+        _ => take_over_of::<Orders>(host, path, "migrated purchasing 1 2\n"),
     }
 }

@@ -25,4 +25,4 @@ pub use frames::show_frames;
 pub use journals::show_journal;
 pub use marks::show_marks;
 pub use services::{Shown, show_row};
-pub use words::spelled;
+pub use words::{push_entity, spelled};

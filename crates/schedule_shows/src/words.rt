@@ -51,8 +51,11 @@ pub(crate) fn push_escaped(line: &mut Vec<u8>, word: &str) -> Result<(), AllocEr
     Ok(())
 }
 
-/// Appends an entity's text, with its escapes.
-pub(crate) fn push_entity(line: &mut Vec<u8>, entity: &Entity) -> Result<(), AllocError>
+/// Appends an entity's text, with its escapes: a line that has it can be read as words.
+///
+/// # Errors
+/// Where an allocation failed; the line isn't whole then.
+pub fn push_entity(line: &mut Vec<u8>, entity: &Entity) -> Result<(), AllocError>
     ensures { OnOk result (line.new.items ≡ line.old.items ++ shown_entity entity.now) }
 {
     push_escaped(line, entity.text())

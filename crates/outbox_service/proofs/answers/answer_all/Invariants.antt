@@ -1,6 +1,0 @@
-use Rattle.std.specs.Prelude.{◌≡◌}
-use Rattle.shared_endpoint.specs.Keys.{IsSeatOf, seat_number}
-use Rattle.outbox_service.proofs.answers.answer_all.Given as goal
-
-abbrev pub invariant-loop : goal.invariant-loop
-invariant-loop g l = IsSeatOf l.shared l.seat × (seat_number l.seat ≡ seat_number l.fn.seat)

@@ -1,0 +1,5 @@
+pub mod Backoffs
+pub mod Faults
+pub mod Input
+pub mod Lives
+pub mod Silences
