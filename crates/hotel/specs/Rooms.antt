@@ -7,6 +7,8 @@ use Rattle.envelope.specs.declared.message.Message.{Message}
 use Rattle.envelope.specs.declared.message.Message.TheVariants.{Request, Tentative, Refused, Confirm, Cancel}
 use Rattle.activities.specs.declared.handler.Refusal.{Refusal}
 use Rattle.activities.specs.declared.handler.Refusal.TheVariants.{Own}
+use Rattle.activities.specs.declared.input.Input.{Input}
+use Rattle.activities.specs.declared.input.Input.TheVariants.{FromSeat, FromEntity}
 use Rattle.activities.specs.declared.outs.Out.{Out}
 use Rattle.activities.specs.OwnRefusals.{own}
 use Rattle.activities.specs.Reaction.{Reactions, reply}
@@ -25,6 +27,11 @@ is_free _ = false
 abbrev pub is_promised : Room → Entity → Bool
 is_promised (Promised to) order = same_entity to order
 is_promised _ order = false
+
+-- whether this order sent it
+abbrev pub is_from : Entity → Input RoomCommand → Bool
+is_from order (FromSeat seat command) = false
+is_from order (FromEntity sender number message) = same_entity order sender
 
 -- a guest takes a free room, and leaves it; else the room isn't free, or no guest has it
 abbrev pub on_room_command : Room → RoomCommand → Result (Room × List Out) Refusal

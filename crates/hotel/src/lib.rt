@@ -16,8 +16,10 @@
 //! A free room is promised to whoever asks for one guest, and says so: `Tentative` stands in `outs`.
 #![tactic(auto)]
 
+mod laws;
 mod room;
 mod rooms;
 
+pub use laws::a_room_is_promised_to_one;
 pub use room::{BEDS, NOT_FREE, NOT_TAKEN, Room, RoomCommand};
 pub use rooms::Rooms;
