@@ -1,5 +1,5 @@
 -- The reactions of a title.
-use Rattle.std.specs.Prelude.{ℕ, ◌+◌, ◌-◌, Bool, false, ◌&&◌, ◌||◌, not, nat_le, nat_lt, length, filter}
+use Rattle.std.specs.Prelude.{ℕ, ◌+◌, ◌-◌, ◌≤◌, Bool, false, ◌&&◌, ◌||◌, not, nat_le, nat_lt, length, filter}
 use Rattle.std.specs.Prelude.{List, [], ◌∷◌, ◌++◌, Result, Ok, Err, if◌then◌else◌}
 use Rattle.base.specs.Entity.{Entity}
 use Rattle.base.specs.Order.{same_entity}
@@ -76,3 +76,7 @@ title_reactions = record {
   on_command = on_title_command;
   on_message = on_title_message;
 }
+
+-- what is set aside is here
+abbrev pub IsCovered : TitleState → Type 0
+IsCovered t = t.aside ≤ t.here

@@ -23,8 +23,10 @@
 //! One copy fewer stands on the shelf than were added. The reader is told so: `Tentative` stands in `outs`.
 #![tactic(auto)]
 
+mod laws;
 mod title;
 mod titles;
 
+pub use laws::what_is_set_aside_is_here;
 pub use title::{ASKERS, Asker, NOT_ON_SHELF, TOO_MANY, Title, TitleCommand};
 pub use titles::Titles;
