@@ -164,7 +164,7 @@ impl Holder for Account {
     }
 
     fn refuse(&mut self, order: Entity, number: Number) -> Result<(), AllocError> {
-        // A refused order has a line too: a request that is redelivered finds it, and isn't answered anew.
+        // A refused order has a line too: a request that is redelivered finds it, and isn't answered again.
         self.lines.insert(order, number, LinePhase::Refused)?;
         Ok(())
     }

@@ -84,7 +84,7 @@ impl<const FULL: usize> Broker<FULL> {
     /// # Errors
     /// - `NoSession` where there is no session of this number, and then nothing has changed;
     /// - `Memory` if an allocation fails. Where the piece was not taken nothing has changed. Where it was, the frames
-    ///   before were handled, and the next call goes on where this one has stopped: `feed` with no octets then serves.
+    ///   before were handled, and the next call continues where this one stopped: `feed` with no octets then serves.
     ///   No frame is lost or handled twice.
     pub fn feed(&mut self, session: SessionId, piece: &[u8]) -> Result<usize, BrokerFault>
         ensures { FeedAnswer FULL self.old session piece.now self.new result }

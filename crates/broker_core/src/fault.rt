@@ -64,7 +64,7 @@ impl FrameRefusal {
         }
     }
 
-    /// The name of the refusal, as an ERROR tells it after the number.
+    /// The name of the refusal, as an ERROR has it after the number.
     pub fn name(self) -> &'static str
         ensures { result.now ≡ refusal_name self }
     {

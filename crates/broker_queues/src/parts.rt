@@ -98,7 +98,7 @@ impl Parts {
         requires { IsSound (holding_of self.old) }
         ensures { PutsIn full (holding_of self.old) sent.now (holding_of self.new) result }
     {
-        // Looked up once: what its queue tells spares the calls after a look, and they find the name by the hint that
+        // Looked up once: what its queue shows spares the calls after a look, and they find the name by the hint that
         // this leaves.
         let told = self.destinations.seek(&sent.get().destination);
         if told_count(told) >= full {

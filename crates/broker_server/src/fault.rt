@@ -34,7 +34,7 @@ pub enum ReadFault {
     /// The read failed.
     #[error("the stream failed")]
     Stream,
-    /// Memory was refused to a frame, or to a deal after it. The octets were taken: the next feed goes on where this
+    /// Memory was refused to a frame, or to a deal after it. The octets were taken: the next feed continues where this
     /// one has stopped.
     #[error("out of memory: frames wait")]
     Waits,

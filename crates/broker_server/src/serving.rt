@@ -94,7 +94,7 @@ pub fn serve<R: Net + Wait + Clock, const FULL: usize>(
     serve_watched(rt, alloc, broker, listener, stop, ServeOptions::new(), &())
 }
 
-/// Serves as [`serve`] does, with options, and tells a [`Watch`] what happens. Where serving ends, all connections do,
+/// Serves as [`serve`] does, with options, and reports to a [`Watch`] what happens. Where serving ends, all connections do,
 /// and none is reported.
 ///
 /// # Errors
@@ -215,7 +215,7 @@ impl Server {
     }
 
     /// Has connections do what their sockets are ready for, in order, until all have or these are frames enough for a
-    /// turn: the next one goes on after them.
+    /// turn: the next one continues after them.
     fn handle<W: Watch, const FULL: usize>(&mut self, broker: &mut Broker<FULL>, watch: &W) {
         let most = self.work.figures.frames.saturating_add(FRAMES as u64);
         for event in self.events.iter().skip(self.handled) {

@@ -78,13 +78,13 @@ fn read_piece<S: Read>(stream: &mut S, buffer: &mut [u8]) -> Result<Piece, TurnF
 }
 
 /// Feeds octets to an open session, and handles them as far as its frames are whole: the answer is how many frames.
-/// With no octets it goes on with the frames that wait since an allocation for them failed.
+/// With no octets it continues with the frames that wait since an allocation for them failed.
 ///
 /// # Errors
 /// - `Waits` if an allocation failed after the taking of the octets: the frames before were handled, and the next feed,
-///   also one of no octets, goes on where this one has stopped: no frame is lost or handled twice;
+///   also one of no octets, continues where this one stopped: no frame is lost or handled twice;
 /// - `Untaken` if an allocation failed for the octets, never to none: nothing has changed, and they may be fed again. It
-///   tells how many.
+///   says how many.
 pub fn feed_in<const FULL: usize>(
     broker: &mut Broker<FULL>,
     session: SessionId,
@@ -110,7 +110,7 @@ pub fn feed_in<const FULL: usize>(
 /// # Errors
 /// - `Stream` where the read failed, and then nothing was read;
 /// - `Waits` if an allocation failed after the taking of the octets. The session has all of them, and a later
-///   [`feed_in`], also one of no octets, goes on with its frames: what is read until then waits after them;
+///   [`feed_in`], also one of no octets, continues with its frames: what is read until then waits after them;
 /// - `Untaken` if an allocation failed for the octets themselves. The session has none of them, and nothing has changed:
 ///   they are the first so many of `buffer`, of which the stream doesn't tell again, and may be fed later by
 ///   [`feed_in`], before others.

@@ -36,7 +36,7 @@ impl TransactionFault {
         }
     }
 
-    /// The name of the fault, as an ERROR tells it after the number.
+    /// The name of the fault, as an ERROR has it after the number.
     pub fn name(self) -> &'static str
         ensures { result.now ≡ transaction_fault_name self }
     {

@@ -17,7 +17,7 @@ use envelope::Envelope;
 use keep::{Change, Keep, KeepFault};
 use std::alloc::{AllocError, Global};
 
-/// The changes of the envelopes that are processed so far, and what is told of each.
+/// The changes of the envelopes that are processed so far, and what is reported of each.
 #[derive(Drop)]
 pub(crate) struct Group<S, C> {
     changes: Vec<Change<S, C>>,
@@ -167,9 +167,9 @@ where
 }
 
 /// Processes the first of these envelopes, as many as can be processed together, by one transaction of the store, and
-/// tells of each what the endpoint answers to one that comes alone. It stops at the first that it can't process so: a
+/// reports of each what the endpoint answers to one that comes alone. It stops at the first that it can't process so: a
 /// letter that isn't the next of its pair, a settle by which no mark rises, one that is refused, one of another service,
-/// and one whose own entity, the letter's receiver or the settle's sender, has another before it. Where it tells of none
+/// and one whose own entity, the letter's receiver or the settle's sender, has another before it. Where it reports none
 /// the transaction changes nothing.
 ///
 /// Calls of the store: for a letter `handled`, `entity`, and one `sent` for each message that it makes its receiver

@@ -1,6 +1,6 @@
-//! What is told of an envelope that was processed with others.
+//! What is reported of an envelope that was processed with others.
 
-/// What is told of an envelope that was processed with others.
+/// What is reported of an envelope that was processed with others.
 #[derive(Clone, Copy, Debug, PartialEq, Eq)]
 pub enum Grouped {
     /// The letter was handled: this is the position of its row in the journal.

@@ -1,7 +1,7 @@
 //! Several letters and settles in one transaction of the store, with one sync of its disk.
 //!
-//! [`take_group`] processes the first so many of those that have come as if they came one after another, and tells of each
-//! what the endpoint tells of one that comes alone. All is written at once: after an error nothing is changed, but where
+//! [`take_group`] processes the first so many of those that have come as if they came one after another, and reports of each
+//! what the endpoint reports of one that comes alone. All is written at once: after an error nothing is changed, but where
 //! the store failed, its tables, once reopened, may also have a first part of them processed. A group ends before the
 //! first that can't be processed so: a second one of the same entity, a letter that isn't the next of its pair, a settle
 //! by which no mark rises, and whatever is refused. That one is the first of the next group, or goes to the endpoint

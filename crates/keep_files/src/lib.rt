@@ -1,7 +1,7 @@
 //! The tables of a service in two files, which are reopened after a failure.
 //!
 //! A [`FileKeep`] is a `SqliteKeep` over a database file and its log, on any disk, and keeps the law of `Keep`: a
-//! `reopen` closes the files and opens them again, so that a service goes on after a disk that failed once. Files of
+//! `reopen` closes the files and opens them again, so that a service continues after a disk that failed once. Files of
 //! which a sync has failed aren't reopened. It takes over files on a disk of the caller's, or opens a path: the database
 //! file, with its log beside it. Dropped while it works, it copies the log into the database file, which is then whole
 //! alone.

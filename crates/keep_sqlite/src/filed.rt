@@ -123,7 +123,7 @@ pub trait Filed {
     /// How the rows of the service were stored in version 1.
     ghost first: { FirstFiling Self.State Self.Command };
 
-    /// Writes the rows of version 1 as those of today. `progress` is told of each row that had to be looked at.
+    /// Writes the rows of version 1 as those of today. `progress` is called for each row that had to be looked at.
     ///
     /// # Errors
     /// If the store or an allocation failed, and where a row isn't one that version 1 wrote.

@@ -35,7 +35,7 @@ fn first_stocks_of(alloc: Global, row: &Row) -> Result<Vec<Partner>, Error>
     }
 }
 
-/// The order that a row of version 1 tells, as `read_first_orders` shows it: after its key.
+/// The order that a row of version 1 has, as `read_first_orders` shows it: after its key.
 pub fn first_order_of(alloc: Global, row: &Row) -> Result<Order, Error>
     ensures { IfOk result (λ order. first_order_told (column row.now 1) (column row.now 2) (column row.now 3)
         (column row.now 4) (column row.now 5) (column row.now 6) (column row.now 7) ≡ Some order) }

@@ -133,7 +133,7 @@ fn migrate_tables<H: Filed, S: Alter, P: Progress>(
 
 impl<H: Filed, S: Alter> SqliteKeep<H, S> {
     /// Takes a file of version 1 over, in one transaction: its tables are then those of version 2, and hold the same. One of
-    /// version 2, and one without tables, stays as it is. `progress` is told of each row. A connection whose rows are known
+    /// version 2, and one without tables, stays as it is. `progress` is called for each row. A connection whose rows are known
     /// to be in order is what [`with_sorted_rows`] gives.
     ///
     /// # Errors

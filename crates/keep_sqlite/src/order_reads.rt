@@ -18,7 +18,7 @@ use sql_rows::{read_order_head, read_order_lines};
 use sqlite::{Alter, Connection, Error, Row};
 use std::alloc::Global;
 
-/// Puts the stock that a line tells after the others.
+/// Puts the stock that a line names after the others.
 fn push_line(alloc: Global, stocks: &mut Vec<Partner>, row: &Row) -> Result<(), Error>
     ensures { OnOk result (with_shown row.now stocks.old.items ≡ Some stocks.new.items) }
 {

@@ -82,7 +82,7 @@ fn put_orders<S: Alter, P: Progress>(
 }
 
 /// Writes the rows that purchasing had in version 1 as those of today: its orders are read before their table is
-/// dropped, and put into the new ones after it. `progress` is told of each row of the journal and each order.
+/// dropped, and put into the new ones after it. `progress` is called for each row of the journal and each order.
 pub fn renew_orders<S: Alter, P: Progress>(
     alloc: Global,
     tx: &mut Transaction<'_, S>,

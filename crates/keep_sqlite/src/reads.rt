@@ -51,7 +51,7 @@ fn told_by(done: Result<Statement, Error>) -> Result<(), KeepFault>
 /// its first word, which allocates nothing.
 ///
 /// # Errors
-/// `Failed` where the connection was shut, or the disk failed. `Memory` if an allocation fails, which tells neither.
+/// `Failed` where the connection was shut, or the disk failed. `Memory` if an allocation fails, which says neither.
 pub fn look<S: Alter>(conn: &mut Connection<S>) -> Result<(), KeepFault>
     requires autocommit { conn.old.in_transaction ≡ false }
     requires settled { HasCleanDisk (state S.Store conn.old) → IsTrue (state S.Store conn.old).is_open

@@ -186,7 +186,7 @@ impl Relay {
     /// Calls of the store: one `unsettled` or more, each for a page of rows. It begins after the last row that was
     /// sent. Where the journal has grown since the last filling, one `journal` comes first, and of what is before that
     /// row it looks at what the new rows' entities sent; where more than 256 rows came, it looks from the first row on.
-    /// What it sends is told where the cursor is right: of each content of this service's store that it went over
+    /// What it sends is known where the cursor is right: of each content of this service's store that it went over
     /// ([`each_deed_is_known`]).
     ///
     /// [`each_deed_is_known`]: crate::each_deed_is_known

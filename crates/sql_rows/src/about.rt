@@ -16,7 +16,7 @@ use crate::service::Service;
 use crate::statements::{read, text, write};
 use sqlite::{Alter, Connection, Error, Row, Transaction};
 
-/// Makes the table that tells whose tables they are.
+/// Makes the table that says whose tables they are.
 fn create_about<S: Alter>(tx: &mut Transaction<'_, S>, _service: Service) -> Result<usize, Error>
     requires made { HasCleanDisk (state S.Store tx.old.conn.now)
         → AreMade (common_tables ++ own_tables _service) (state S.Store tx.old.conn.now).now }

@@ -39,7 +39,7 @@ fn create_first_orders<S: Alter>(tx: &mut Transaction<'_, S>) -> Result<usize, E
     )
 }
 
-/// Makes the table that tells whose tables they are, after that of orders.
+/// Makes the table that says whose tables they are, after that of orders.
 fn create_first_about<S: Alter>(tx: &mut Transaction<'_, S>) -> Result<usize, Error>
     requires made { HasCleanDisk (state S.Store tx.old.conn.now)
         → AreMade (common_tables ++ orders ∷ []) (state S.Store tx.old.conn.now).now }

@@ -87,7 +87,7 @@ fn rebuild_order_lines<S: Alter>(tx: &mut Transaction<'_, S>) -> Result<usize, E
     )
 }
 
-/// Makes the table that tells whose tables they are, after those of orders.
+/// Makes the table that says whose tables they are, after those of orders.
 fn rebuild_about<S: Alter>(tx: &mut Transaction<'_, S>) -> Result<usize, Error>
     requires schema { HasCleanDisk (state S.Store tx.old.conn.now)
         → (state S.Store tx.old.conn.now).now.schema ≡ schema_with (common_tables ++ order_heads ∷ order_lines ∷ []) }

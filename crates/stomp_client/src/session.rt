@@ -434,7 +434,7 @@ impl<T: Drop> ClientSession<T> {
         Ok(number)
     }
 
-    /// What a server's frame tells. After an ERROR the session is closed. It allocates nothing.
+    /// What a server's frame says. After an ERROR the session is closed. It allocates nothing.
     ///
     /// # Errors
     /// - `Closed` where the session is closed.

@@ -17,7 +17,7 @@ const RESTING: usize = 32_768;
 ///
 /// However the text is cut into pieces, its frames are the same, and its fault is. Where `next` finds no whole frame,
 /// it leaves at most `BODY` and 35,910 octets held, and room for four times `BODY`, or for 32,768 octets where nothing
-/// is held. A length that is told allocates nothing: its octets do as they come. Of a frame that isn't whole, a later
+/// is held. A length that is declared allocates nothing: its octets do as they come. Of a frame that isn't whole, a later
 /// call of `next` reads no octet again but for one.
 #[derive(Debug, Drop)]
 pub struct Decoder<const BODY: usize> {

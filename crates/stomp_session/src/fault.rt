@@ -48,7 +48,7 @@ impl SessionFault {
         }
     }
 
-    /// The name of the fault, as an ERROR tells it after the number.
+    /// The name of the fault, as an ERROR has it after the number.
     pub fn name(self) -> &'static str
         ensures { result.now ≡ session_fault_name self }
     {
