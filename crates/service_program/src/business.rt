@@ -54,6 +54,10 @@ pub trait Business<H: Handler> {
 /// # Errors
 /// `Unreadable` where it isn't a kind and a key of 1 to 64 octets, `Memory`.
 pub fn read_entity(alloc: Global, text: &str) -> Result<Entity, LineFault> {
+    // Else it would be several lines of a schedule, of which the last would be taken.
+    if text.as_bytes().contains(&b'\n') {
+        return Err(LineFault::Unreadable);
+    }
     // Schedules have the same words, so one reader serves both.
     let line = format!(in alloc; "show {text}")?;
     match read_schedule(alloc, line.as_bytes()) {
