@@ -10,7 +10,7 @@
 
 use base::{Entity, Kind};
 use hotel::{Room, RoomCommand, Rooms};
-use service_program::{Business, LineFault, Texts, push_entity, read_key, run_service_program};
+use service_program::{Business, LineFault, Texts, read_key, run_main, show_entity};
 use std::alloc::{AllocError, Global};
 use std::io;
 use std::process::ExitCode;
@@ -52,18 +52,18 @@ impl Business<Rooms> for Hotel {
         }
     }
 
-    fn push_state(line: &mut Vec<u8>, room: &Room) -> Result<(), AllocError> {
+    fn show_state(alloc: Global, room: &Room) -> Result<String, AllocError> {
         match room {
-            Room::Free => line.extend_from_slice(b" free"),
-            Room::Taken => line.extend_from_slice(b" taken"),
+            Room::Free => String::from_str(alloc, "free"),
+            Room::Taken => String::from_str(alloc, "taken"),
             Room::Promised(order) => {
-                line.extend_from_slice(b" promised ")?;
-                push_entity(line, order)
+                let order = show_entity(alloc, order)?;
+                format!(in alloc; "promised {order}")
             }
         }
     }
 }
 
 fn main(rt: HostRuntime) -> io::Result<ExitCode> {
-    run_service_program::<Rooms, Hotel, _>(&rt, &rt, TEXTS)
+    run_main::<Rooms, Hotel, _>(&rt, &rt, TEXTS)
 }

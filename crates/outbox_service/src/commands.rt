@@ -1,6 +1,6 @@
 //! What lines mean to each of the three services, and how their states are shown.
 
-ghost use Rattle.std.specs.Prelude.{◌≡◌};
+ghost use Rattle.std.specs.Prelude.{◌≡◌, drop, string_bytes, IfOk};
 ghost use Rattle.outbox_service.specs.Commands.{fault_of};
 
 use base::Entity;
@@ -98,6 +98,28 @@ fn command_of<C: Drop>(asked: SeatCommand<C>) -> (Entity, C)
     (entity, command)
 }
 
+/// The words of a state, which schedules print with a space before the first.
+fn show_words<S: Shown>(alloc: Global, state: &S::State) -> Result<String, AllocError>
+    ensures { IfOk result (λ words. string_bytes words ≡ drop 1 (S.shown_state state.now)) }
+{
+    let mut octets = Vec::new(alloc);
+    S::push_state(&mut octets, state)?;
+    match octets.as_slice() {
+        [_, words @ ..] => text_of(alloc, words),
+        [] => Ok(String::new(alloc)),
+    }
+}
+
+/// A text whose octets these are. Those of words are ASCII, or keys, so that they are one.
+fn text_of(alloc: Global, octets: &[u8]) -> Result<String, AllocError>
+    ensures { IfOk result (λ text. string_bytes text ≡ octets.now) }
+{
+    match str::from_utf8(octets) {
+        Ok(text) => String::from_str(alloc, text),
+        Err(_) => Err(AllocError),
+    }
+}
+
 impl Business<Orders> for Trade {
     fn read_command(alloc: Global, line: &str) -> Result<(Entity, OrderCommand), LineFault> {
         match read_event(alloc, line)? {
@@ -106,8 +128,8 @@ impl Business<Orders> for Trade {
         }
     }
 
-    fn push_state(line: &mut Vec<u8>, order: &Option<Order>) -> Result<(), AllocError> {
-        Orders::push_state(line, order)
+    fn show_state(alloc: Global, order: &Option<Order>) -> Result<String, AllocError> {
+        show_words::<Orders>(alloc, order)
     }
 }
 
@@ -119,8 +141,8 @@ impl Business<Stocks> for Trade {
         }
     }
 
-    fn push_state(line: &mut Vec<u8>, stock: &Stock) -> Result<(), AllocError> {
-        Stocks::push_state(line, stock)
+    fn show_state(alloc: Global, stock: &Stock) -> Result<String, AllocError> {
+        show_words::<Stocks>(alloc, stock)
     }
 }
 
@@ -132,7 +154,7 @@ impl Business<Accounts> for Trade {
         }
     }
 
-    fn push_state(line: &mut Vec<u8>, account: &Account) -> Result<(), AllocError> {
-        Accounts::push_state(line, account)
+    fn show_state(alloc: Global, account: &Account) -> Result<String, AllocError> {
+        show_words::<Accounts>(alloc, account)
     }
 }

@@ -28,7 +28,7 @@ use commands::{TEXTS, Trade};
 use filed::run_filed;
 use keep_plain::PlainKeep;
 use keep_sqlite::Filed;
-use log::Log;
+use log::{Log, warn};
 use migration::take_over;
 use purchasing::Orders;
 use service_program::{
@@ -106,8 +106,10 @@ where
         file,
         migrate,
     } = settings;
-    if let (Some(path), true) = (file, migrate) {
-        take_over(host, service, path)?;
+    match file {
+        Some(path) if migrate => take_over(host, service, path)?,
+        None if migrate => warn!(rt; "--migrate does nothing without --file"),
+        _ => (),
     }
     match service {
         "warehouse" => run_at::<Stocks, R>(rt, host, file, broker),
@@ -129,8 +131,9 @@ where
         choices: CHOICES,
         help: help.as_str(),
     };
-    match read_words(host, program, words.as_slice())? {
-        Ok(settings) => status_of(host, run(rt, host, settings)),
+    let (mut out, mut err) = (host.stdout(), host.stderr());
+    match read_words(alloc, program, words.as_slice(), &mut out, &mut err)? {
+        Ok(settings) => status_of(&mut err, run(rt, host, settings)),
         Err(status) => Ok(status),
     }
 }

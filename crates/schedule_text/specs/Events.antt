@@ -3,6 +3,7 @@ use Rattle.std.specs.Prelude.{ℕ, List, [], ◌∷◌, codes, Option, Some, Non
 use Rattle.std.specs.Option.{option_map}
 use Rattle.std.specs.Str.{bytes_eq}
 use Rattle.text.specs.Numerals.{number_of}
+use Rattle.base.specs.Entity.{Entity}
 use Rattle.base.specs.declared.pair.Pair.{Pair}
 use Rattle.schedule_text.specs.declared.event.Event.{Event}
 use Rattle.schedule_text.specs.declared.event.Event.TheVariants as event
@@ -18,7 +19,7 @@ use Rattle.schedule_text.specs.Arguments.{rounds_of}
 use Rattle.schedule_text.specs.Commands.{place_of, cancel_of, receive_of, limit_of}
 use Rattle.schedule_text.specs.Schedules.{read_by}
 use Rattle.schedule_text.specs.Verbs.{verb_of}
-use Rattle.schedule_text.specs.Words.{◌>>=◌}
+use Rattle.schedule_text.specs.Words.{◌>>=◌, words_of}
 
 -- a word alone, as what it is
 abbrev pub alone : {A : Type 0} → (List ℕ → Option A) → List (List ℕ) → Option A
@@ -105,6 +106,10 @@ event_by Agreement arguments = agreement_of arguments
 abbrev pub event_of : List (List ℕ) → Option Event
 event_of [] = None
 event_of (name ∷ arguments) = verb_of name >>= λ verb. event_by verb arguments
+
+-- the entity that the only word of a line names
+abbrev pub entity_on : List ℕ → Option Entity
+entity_on line = words_of line >>= alone entity_of
 
 -- the events of a schedule, or the number of its first faulty line
 abbrev pub events_of : List ℕ → Result (List Event) ℕ

@@ -32,4 +32,4 @@ pub use laws::{
     a_printed_word_is_read_again, an_event_has_few_words, written_lines_are_read_again,
 };
 pub use outcome::{Outcome, Pieces};
-pub use reading::read_schedule;
+pub use reading::{read_entity, read_schedule};

@@ -30,7 +30,7 @@ fn read_service(words: &[Word]) -> Result<ServiceName, LineFault>
 }
 
 /// `ENTITY`.
-fn read_entity(alloc: Global, words: &[Word]) -> Result<Entity, LineFault>
+pub(crate) fn read_shown(alloc: Global, words: &[Word]) -> Result<Entity, LineFault>
     ensures { Reads (λ entity. entity) result (alone entity_of words.now) }
 {
     let [entity] = words else {
@@ -168,7 +168,7 @@ fn read_arguments(alloc: Global, verb: Verb, words: &[Word]) -> Result<Event, Li
         Verb::Reopen => Ok(Event::Reopen(read_service(words)?)),
         Verb::Stop => read_stop(words),
         Verb::Pump => Ok(Event::Pump(read_rounds(words)?)),
-        Verb::Show => Ok(Event::Show(read_entity(alloc, words)?)),
+        Verb::Show => Ok(Event::Show(read_shown(alloc, words)?)),
         Verb::Pair => Ok(Event::Pair(read_pair(alloc, words)?)),
         Verb::Frames => Ok(Event::Frames(read_service(words)?)),
         Verb::Journal => Ok(Event::Journal(read_service(words)?)),

@@ -1,8 +1,8 @@
 //! Schedules, read from text.
 
 ghost use Rattle.std.specs.Prelude.{◌≡◌, ◌<◌, ◌∷◌, ◌++◌, ◌==◌, ◌||◌, nat_lt, nat_le, length, count_by, position};
-ghost use Rattle.std.specs.Prelude.{option_to_list, OnOk};
-ghost use Rattle.schedule_text.specs.Events.{event_of, events_of};
+ghost use Rattle.std.specs.Prelude.{option_to_list, IfOk, OnOk};
+ghost use Rattle.schedule_text.specs.Events.{entity_on, event_of, events_of};
 ghost use Rattle.schedule_text.specs.Faults.{IsRead};
 ghost use Rattle.schedule_text.specs.Lines.{lines_of};
 ghost use Rattle.schedule_text.specs.Reading.{Reads};
@@ -10,8 +10,9 @@ ghost use Rattle.schedule_text.specs.Schedules.{is_quiet, said_on, found_in, fou
 
 use crate::event::Event;
 use crate::fault::{LineFault, ScheduleFault};
-use crate::parsing::read_event;
+use crate::parsing::{read_event, read_shown};
 use crate::words::read_words;
+use base::Entity;
 use std::alloc::{AllocError, Global};
 
 /// The most octets of an event's line, were each octet of its words escaped.
@@ -122,4 +123,24 @@ pub fn read_schedule(alloc: Global, text: &[u8]) -> Result<Vec<Event>, ScheduleF
         rest = after;
     }
     Ok(events)
+}
+
+/// The entity that the only word of a line names, as the line of `show` has it: `stock/seven`, where `\s` is a space, `\n`
+/// LF, `\r` CR and `\\` a backslash, and any other octet itself. There is none where it isn't a kind and a key of 1 to 64 octets.
+///
+/// # Errors
+/// Where an allocation failed.
+pub fn read_entity(alloc: Global, line: &str) -> Result<Option<Entity>, AllocError>
+    ensures { IfOk result (λ found. found ≡ entity_on line.now) }
+{
+    let words = match read_words(alloc, line) {
+        Ok(words) => words,
+        Err(LineFault::Bad) => return Ok(None),
+        Err(LineFault::Memory) => return Err(AllocError),
+    };
+    match read_shown(alloc, words.as_slice()) {
+        Ok(entity) => Ok(Some(entity)),
+        Err(LineFault::Bad) => Ok(None),
+        Err(LineFault::Memory) => Err(AllocError),
+    }
 }

@@ -1,2 +1,3 @@
 mod Lives
+mod StateWords
 mod Seats

@@ -1,5 +1,5 @@
 -- Why the program ends with status 1.
-use Rattle.std.specs.Prelude.{ℕ, List, codes}
+use Rattle.std.specs.Prelude.{ℕ, List, codes, Result, Ok, Err}
 use Rattle.std.specs.declared.io.ErrorKind.{ErrorKind}
 use Rattle.std.specs.declared.io.ErrorKind.TheVariants.{OutOfMemory}
 use Rattle.keep.specs.declared.fault.KeepFault.{KeepFault}
@@ -26,3 +26,8 @@ fault_of_file WrongFile = run.WrongFile
 abbrev pub fault_of_kind : ErrorKind → RunFault
 fault_of_kind OutOfMemory = run.Memory
 fault_of_kind _ = run.Device
+
+-- the exit status of a service that ended so
+abbrev pub status_of : {A : Type 0} → Result A RunFault → ℕ
+status_of (Ok _) = 0
+status_of (Err _) = 1

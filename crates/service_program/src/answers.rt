@@ -6,6 +6,7 @@ ghost use Rattle.shared_endpoint.specs.Keys.{IsSeatOf, AreSeatsOf, seat_number};
 use crate::asks::{Ask, read_ask};
 use crate::board::Board;
 use crate::business::{Business, LineFault};
+use crate::console::Streams;
 use crate::input::{Came, InputLines};
 use crate::rows::show_row;
 use activities::{Handler, Refusal};
@@ -17,7 +18,8 @@ use service_workers::Resting;
 use shared_endpoint::{Seat, Shared};
 use std::alloc::Global;
 use std::io;
-use std::io::{BufRead, BufReader, ErrorKind, Write};
+use std::io::{BufRead, ErrorKind, Write};
+use std::net::Net;
 use std::sync::Wait;
 use std::time::{Clock, Duration};
 
@@ -31,7 +33,7 @@ const MOMENT: u64 = 1;
 const PATIENCE: u64 = 500;
 
 /// Where lines come from and where their answers go.
-struct Desk<'a, I: BufRead + Drop, W: Write + Drop> {
+pub struct Desk<'a, I: BufRead + Drop, W: Write + Drop> {
     alloc: Global,
     board: &'a Board,
     input: InputLines<I>,
@@ -62,6 +64,25 @@ fn log_refusal<H: Handler, R: Log>(rt: &R, refusal: Refusal) {
 }
 
 impl<'a, I: BufRead + Drop, W: Write + Drop> Desk<'a, I, W> {
+    /// One for these streams.
+    ///
+    /// # Errors
+    /// Where the system or memory refused what lines are waited for with.
+    pub fn new<R: Net>(
+        rt: &R,
+        alloc: Global,
+        board: &'a Board,
+        streams: Streams<I, W>,
+    ) -> io::Result<Desk<'a, I, W>> {
+        let (input, descriptor, out) = streams.into_parts();
+        Ok(Desk {
+            alloc,
+            board,
+            input: InputLines::new(rt, alloc, input, descriptor)?,
+            out,
+        })
+    }
+
     /// Answers a command that its business refuses.
     fn refuse_business<H: Handler, R: Log>(&mut self, rt: &R, refusal: Refusal) -> io::Result<()> {
         log_refusal::<H, R>(rt, refusal);
@@ -79,12 +100,7 @@ impl<'a, I: BufRead + Drop, W: Write + Drop> Desk<'a, I, W> {
 
     /// Answers a line that is no line of this service.
     fn refuse_line(&mut self, fault: LineFault) -> io::Result<()> {
-        let number = match fault {
-            LineFault::NotMine => 60,
-            LineFault::Memory => 64,
-            LineFault::Unreadable => 80,
-        };
-        writeln!(self.out, "refused {number}")
+        writeln!(self.out, "refused {}", fault.number())
     }
 
     /// Waits until this asking is answered, or none is any more.
@@ -303,51 +319,22 @@ where
     Ok(())
 }
 
-/// Answers the lines of the standard input until they end, or the store has failed.
-fn answer_lines<H, B, K, R>(
-    rt: &R,
-    host: &HostRuntime,
-    shared: &Shared<H, K>,
-    seat: &mut Seat<H, K>,
-    board: &Board,
-) -> io::Result<()>
-where
-    H: Handler,
-    B: Business<H>,
-    K: Keep<State = H::State, Command = H::Command> + Drop,
-    R: Wait + Clock + Log,
-    requires seat { IsSeatOf shared.now seat.old }
-    ensures seat { IsSeatOf shared.now seat.new × (seat_number seat.new ≡ seat_number seat.old) }
-{
-    let alloc = host.alloc();
-    // The runtime's own reader takes a pipe octet by octet, so that it never takes more than a line. Nobody else reads here.
-    let blocks = BufReader::new(alloc, host.stdin())?;
-    let mut desk = Desk {
-        alloc,
-        board,
-        input: InputLines::new(host, alloc, blocks)?,
-        out: io::writer(host),
-    };
-    answer_all::<H, B, K, _, _, R>(rt, shared, seat, &mut desk)
-}
-
 /// Answers lines with the first of all seats, which come back, and then has all end.
-pub fn answer_first<H, B, K, R>(
+pub fn answer_first<H, B, K, I: BufRead + Drop, W: Write + Drop, R: Wait + Clock + Log>(
     rt: &R,
-    host: &HostRuntime,
     shared: &Shared<H, K>,
     mut seats: [Seat<H, K>; 16],
-    board: &Board,
+    desk: Desk<'_, I, W>,
 ) -> (io::Result<()>, [Seat<H, K>; 16])
 where
     H: Handler,
     B: Business<H>,
     K: Keep<State = H::State, Command = H::Command> + Drop,
-    R: Wait + Clock + Log,
     requires seats { AreSeatsOf shared.now seats }
     ensures seats { AreSeatsOf shared.now result.1 }
 {
-    let answered = answer_lines::<H, B, K, R>(rt, host, shared, &mut seats[0], board);
-    board.end();
+    let mut desk = desk;
+    let answered = answer_all::<H, B, K, I, W, R>(rt, shared, &mut seats[0], &mut desk);
+    desk.board.end();
     (answered, seats)
 }

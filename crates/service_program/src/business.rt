@@ -1,10 +1,12 @@
 //! What a business adds to the program of its service.
 
-ghost use Rattle.std.specs.Prelude.{◌≡◌};
+ghost use Rattle.std.specs.Prelude.{◌≡◌, ◌++◌};
+ghost use Rattle.base.specs.Entity.{prefix_of};
+ghost use Rattle.schedule_text.specs.Events.{entity_on};
+ghost use Rattle.service_program.specs.Business.{IsReadAs};
 
 use activities::Handler;
 use base::{Entity, Kind};
-use schedule_text::{Event, ScheduleFault, read_schedule};
 use std::alloc::{AllocError, Global};
 use thiserror::Error;
 
@@ -20,6 +22,21 @@ pub enum LineFault {
     /// An allocation failed. It's answered by `refused 64`, and may be given again.
     #[error("out of memory")]
     Memory,
+}
+
+impl LineFault {
+    ghost use Rattle.service_program.specs.Business.{line_fault_number};
+
+    /// Its number, which follows `refused`.
+    pub fn number(self) -> u64
+        ensures { result ≡ line_fault_number self }
+    {
+        match self {
+            LineFault::NotMine => 60,
+            LineFault::Memory => 64,
+            LineFault::Unreadable => 80,
+        }
+    }
 }
 
 impl From<AllocError> for LineFault {
@@ -42,31 +59,27 @@ pub trait Business<H: Handler> {
     /// `Unreadable` where the line is no command, `NotMine` where it's one of another service, `Memory`.
     fn read_command(alloc: Global, line: &str) -> Result<(Entity, H::Command), LineFault>;
 
-    /// Appends the words of a state to a line that has its entity, a space before each: ` free`.
+    /// The words of a state, which follow its entity on the line of `show`: `free`. An entity among them is shown by
+    /// [`show_entity`](crate::show_entity). For an LF `\n` is printed.
     ///
     /// # Errors
     /// Where an allocation failed: then nothing of the line is printed.
-    fn push_state(line: &mut Vec<u8>, state: &H::State) -> Result<(), AllocError>;
+    fn show_state(alloc: Global, state: &H::State) -> Result<String, AllocError>;
 }
 
-/// Reads an entity from a text such as `stock/seven`, in which `\s` is a space, `\n` LF, `\r` CR and `\\` a backslash.
+/// Reads an entity from a text such as `stock/seven`, in which `\s` is a space, `\n` LF, `\r` CR and `\\` a backslash. It has
+/// no space, and any other octet is itself.
 ///
 /// # Errors
 /// `Unreadable` where it isn't a kind and a key of 1 to 64 octets, `Memory`.
-pub fn read_entity(alloc: Global, text: &str) -> Result<Entity, LineFault> {
-    // Else it would be several lines of a schedule, of which the last would be taken.
-    if text.as_bytes().contains(&b'\n') {
-        return Err(LineFault::Unreadable);
-    }
+pub fn read_entity(alloc: Global, text: &str) -> Result<Entity, LineFault>
+    ensures { IsReadAs (entity_on text.now) result }
+{
     // Schedules have the same words, so one reader serves both.
-    let line = format!(in alloc; "show {text}")?;
-    match read_schedule(alloc, line.as_bytes()) {
-        Ok(mut events) => match events.pop() {
-            Some(Event::Show(entity)) => Ok(entity),
-            _ => Err(LineFault::Unreadable),
-        },
-        Err(ScheduleFault::BadEvent(_)) => Err(LineFault::Unreadable),
-        Err(ScheduleFault::Memory) => Err(LineFault::Memory),
+    match schedule_text::read_entity(alloc, text) {
+        Ok(Some(entity)) => Ok(entity),
+        Ok(None) => Err(LineFault::Unreadable),
+        Err(_) => Err(LineFault::Memory),
     }
 }
 
@@ -74,7 +87,10 @@ pub fn read_entity(alloc: Global, text: &str) -> Result<Entity, LineFault> {
 ///
 /// # Errors
 /// Those of [`read_entity`].
-pub fn read_key(alloc: Global, kind: Kind, key: &str) -> Result<Entity, LineFault> {
-    let text = format!(in alloc; "{}{key}", kind.prefix())?;
+pub fn read_key(alloc: Global, kind: Kind, key: &str) -> Result<Entity, LineFault>
+    ensures { IsReadAs (entity_on (prefix_of kind ++ key.now)) result }
+{
+    let mut text = String::from_str(alloc, kind.prefix())?;
+    text.push_str(key)?;
     read_entity(alloc, &text)
 }

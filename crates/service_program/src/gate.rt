@@ -1,12 +1,14 @@
 //! What the program has to say to the threads of the service.
 
 use crate::board::Board;
+use crate::rows::show_entity;
 use base::Pair;
 use endpoint::EndFault;
-use envelope::{Envelope, Letter};
+use envelope::Envelope;
 use log::{Log, warn};
 use reception::ReceptionFault;
 use service_workers::{Cut, Gate, Resting, Stop};
+use std::alloc::{AllocError, Global};
 use std::fmt::Display;
 use std::sync::Wait;
 use std::thread;
@@ -18,6 +20,7 @@ const MOMENT: u64 = 50;
 /// One run of the service's threads, which ends where connections are to be opened or all ends.
 #[derive(Drop)]
 pub struct BoardGate<'a> {
+    alloc: Global,
     board: &'a Board,
     /// By what it ends.
     stop: &'a Stop,
@@ -25,8 +28,8 @@ pub struct BoardGate<'a> {
 
 impl<'a> BoardGate<'a> {
     /// It goes on until the board says otherwise.
-    pub fn new(board: &'a Board, stop: &'a Stop) -> BoardGate<'a> {
-        BoardGate { board, stop }
+    pub fn new(alloc: Global, board: &'a Board, stop: &'a Stop) -> BoardGate<'a> {
+        BoardGate { alloc, board, stop }
     }
 
     /// Ends it where the board says so.
@@ -62,27 +65,37 @@ fn comes_again(fault: ReceptionFault) -> bool {
     )
 }
 
-/// Tells that a letter was thrown away, and why.
-fn tell_letter<R: Log>(rt: &R, number: u8, fault: ReceptionFault, letter: &Letter) {
-    let from = letter.pair.from.text();
-    let to = letter.pair.to.text();
-    let count = letter.number.get();
-    warn!(rt; "connection {number}: letter {count} from {from} to {to} isn't taken: {fault}")
-}
-
-/// Tells that a settle of so many letters was thrown away, and why.
-fn tell_settle<R: Log>(rt: &R, number: u8, fault: ReceptionFault, pair: &Pair, count: u64) {
-    let from = pair.from.text();
-    let to = pair.to.text();
-    warn!(rt; "connection {number}: that {to} has handled {count} letters of {from} isn't taken: {fault}")
-}
-
-/// Tells what was thrown away, and why.
-fn tell_not_taken<R: Log>(rt: &R, number: u8, fault: ReceptionFault, envelope: Option<&Envelope>) {
+/// An envelope in words, as a line of the log has it. Keys have their escapes: one may have an LF.
+fn describe(alloc: Global, envelope: &Envelope) -> Result<String, AllocError> {
     match envelope {
-        Some(Envelope::Letter(letter)) => tell_letter(rt, number, fault, letter),
-        Some(Envelope::Settle(pair, count)) => tell_settle(rt, number, fault, pair, *count),
-        None => warn!(rt; "connection {number}: a message isn't taken: {fault}"),
+        Envelope::Letter(letter) => {
+            let from = show_entity(alloc, &letter.pair.from)?;
+            let to = show_entity(alloc, &letter.pair.to)?;
+            format!(in alloc; "letter {} from {from} to {to}", letter.number.get())
+        }
+        Envelope::Settle(pair, count) => {
+            let from = show_entity(alloc, &pair.from)?;
+            let to = show_entity(alloc, &pair.to)?;
+            format!(in alloc; "that {to} has handled {count} letters of {from}")
+        }
+    }
+}
+
+/// Logs what was thrown away, and why. Where there is no memory for its words it's a message.
+fn log_not_taken<R: Log>(
+    rt: &R,
+    alloc: Global,
+    number: u8,
+    fault: ReceptionFault,
+    envelope: Option<&Envelope>,
+) {
+    let words = match envelope {
+        Some(envelope) => describe(alloc, envelope),
+        None => Err(AllocError),
+    };
+    match words {
+        Ok(words) => warn!(rt; "connection {number}: {words} isn't taken: {fault}"),
+        Err(_) => warn!(rt; "connection {number}: a message isn't taken: {fault}"),
     }
 }
 
@@ -100,7 +113,7 @@ impl<R: Wait + Clock + Log> Gate<R> for BoardGate<'_> {
 
     fn not_taken(&self, rt: &R, number: u8, fault: ReceptionFault, envelope: Option<&Envelope>) {
         if !comes_again(fault) {
-            tell_not_taken(rt, number, fault, envelope);
+            log_not_taken(rt, self.alloc, number, fault, envelope);
         }
     }
 

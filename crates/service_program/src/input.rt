@@ -1,4 +1,4 @@
-//! The lines of the standard input.
+//! The lines of a service's input.
 
 ghost use Rattle.std.specs.Prelude.{◌≡◌, [], true, IfOk, OnErr, option_map};
 ghost use Rattle.service_program.specs.Input.{IsTaken};
@@ -11,9 +11,6 @@ use std::io::{BufRead, ErrorKind};
 use std::net::Net;
 use std::time::Duration;
 
-/// The descriptor of the standard input.
-const DESCRIPTOR: i32 = 0;
-
 const TOKEN: Token = Token(0);
 
 /// How many octets a line has at most that can be read: those of the longest command are fewer.
@@ -22,12 +19,12 @@ pub const LONGEST: usize = 4_096;
 /// How many octets of a line are kept at most, so that one that is too long is known by what is kept of it.
 const KEPT: usize = LONGEST + 1;
 
-/// Waits for the standard input.
+/// Waits for a descriptor.
 struct Waits {
     poll: Poll,
     events: Events<Global>,
-    /// A file can't be waited for: it is always ready.
-    is_file: bool,
+    /// There is none where nothing can be waited for, as for a file: it's always ready.
+    descriptor: Option<i32>,
 }
 
 /// Written by hand, so that an owner doesn't prove at each of its exits how each part is dropped.
@@ -36,7 +33,7 @@ impl Drop for Waits {
         let Waits {
             poll: _poll,
             events: _events,
-            is_file: _,
+            descriptor: _,
         } = self;
     }
 }
@@ -52,7 +49,7 @@ pub enum Came {
     End,
 }
 
-/// The lines of a reader that is the standard input.
+/// The lines of a reader.
 pub struct InputLines<I: BufRead + Drop> {
     alloc: Global,
     input: I,
@@ -78,25 +75,32 @@ impl<I: BufRead + Drop> Drop for InputLines<I> {
     }
 }
 
+/// Whether a poll watches a descriptor from now on. That of a file can't be watched.
+fn is_watched(poll: &Poll, descriptor: i32) -> bool {
+    let mut source = SourceFd(&descriptor);
+    poll.registry()
+        .register(&mut source, TOKEN, Interest::READABLE)
+        .is_ok()
+}
+
 impl Waits {
-    fn new<R: Net>(rt: &R, alloc: Global) -> io::Result<Waits> {
+    /// For this descriptor, if there is one that can be waited for.
+    fn new<R: Net>(rt: &R, alloc: Global, descriptor: Option<i32>) -> io::Result<Waits> {
         let poll = Poll::new(rt)?;
-        let descriptor = DESCRIPTOR;
-        let mut source = SourceFd(&descriptor);
-        let is_file = poll
-            .registry()
-            .register(&mut source, TOKEN, Interest::READABLE)
-            .is_err();
+        let descriptor = match descriptor {
+            Some(descriptor) if is_watched(&poll, descriptor) => Some(descriptor),
+            _ => None,
+        };
         Ok(Waits {
             poll,
             events: Events::with_capacity(alloc, 1)?,
-            is_file,
+            descriptor,
         })
     }
 
     /// Whether there is something to read, or an end, within this time.
     fn is_ready(&mut self, most: Duration) -> bool {
-        if self.is_file {
+        if self.descriptor.is_none() {
             return true;
         }
         match self.poll.poll(&mut self.events, Some(most)) {
@@ -107,10 +111,9 @@ impl Waits {
 
     /// Has it told again that there is something to read: it's told once, and there may be more.
     fn again(&mut self) -> io::Result<()> {
-        if self.is_file {
+        let Some(descriptor) = self.descriptor else {
             return Ok(());
-        }
-        let descriptor = DESCRIPTOR;
+        };
         let mut source = SourceFd(&descriptor);
         self.poll
             .registry()
@@ -119,15 +122,20 @@ impl Waits {
 }
 
 impl<I: BufRead + Drop> InputLines<I> {
-    /// Those of this reader, which is the standard input's.
+    /// Those of this reader, for which it's waited by a descriptor, if it has one.
     ///
     /// # Errors
     /// Where the system or memory refused what it waits with.
-    pub fn new<R: Net>(rt: &R, alloc: Global, input: I) -> io::Result<InputLines<I>> {
+    pub fn new<R: Net>(
+        rt: &R,
+        alloc: Global,
+        input: I,
+        descriptor: Option<i32>,
+    ) -> io::Result<InputLines<I>> {
         Ok(InputLines {
             alloc,
             input,
-            waits: Waits::new(rt, alloc)?,
+            waits: Waits::new(rt, alloc, descriptor)?,
             text: Vec::new(alloc),
             is_held: false,
             has_ended: false,

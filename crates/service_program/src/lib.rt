@@ -2,8 +2,9 @@
 //! and `main` is a line.
 //!
 //! A [`Business`] says what a [`Handler`](activities::Handler) doesn't: which command a line is, and how a state is shown. With
-//! it and the [`Texts`] of `--help`, [`run_service_program`] is the program of a service over tables in memory. A program of
-//! several services, or over another store, reads its words by [`read_words`] and runs one by [`run_service`].
+//! it and the [`Texts`] of `--help`, [`run_main`] is the program of a service over tables in memory; [`run_service_program`] is
+//! the same by given words and on given streams. A program of several services, or over another store, reads its words by
+//! [`read_words`] and runs one by [`run_service`].
 //!
 //! ```rust
 //! pub fn a_key_is_read(alloc: Global) -> Result<bool, LineFault> {
@@ -43,6 +44,7 @@ mod asks;
 mod backoff;
 mod board;
 mod business;
+mod console;
 mod counts;
 mod fault;
 mod gate;
@@ -62,12 +64,13 @@ mod waiting;
 mod words;
 
 pub use business::{Business, LineFault, read_entity, read_key};
+pub use console::{StandardStreams, Streams, standard_streams};
 pub use fault::RunFault;
 pub use help::help_of;
 pub use program::{
-    Choices, Texts, exit_code, read_words, run_in_memory, run_service_program, status_of,
+    Choices, Texts, exit_code, read_words, run_in_memory, run_main, run_service_program, status_of,
 };
-pub use rows::push_entity;
-pub use running::run_service;
+pub use rows::show_entity;
+pub use running::{run_service, run_service_on};
 pub use sockets::Broker;
 pub use words::{ProgramText, Settings};

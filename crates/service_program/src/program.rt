@@ -1,9 +1,13 @@
 //! Programs of services: the words of their command line, and what they print where they can't run.
 
+ghost use Rattle.std.specs.Prelude.{◌≡◌, IfOk};
+ghost use Rattle.service_program.specs.Faults.{status_of};
+
 use crate::business::Business;
+use crate::console::{Streams, standard_streams};
 use crate::fault::RunFault;
 use crate::help::{IN_MEMORY, help_of};
-use crate::running::run_service;
+use crate::running::run_service_on;
 use crate::sockets::Broker;
 use crate::words::{ProgramText, Settings, read_settings};
 use activities::Handler;
@@ -11,7 +15,8 @@ use clap::error::ErrorKind as WordFault;
 use command_line::{tell_bad_words, tell_words};
 use keep_plain::PlainKeep;
 use log::Log;
-use std::io::ErrorKind;
+use std::alloc::Global;
+use std::io::{BufRead, ErrorKind, Write};
 use std::process::ExitCode;
 use std::sync::Wait;
 use std::thread::Threads;
@@ -62,80 +67,90 @@ const MEMORY: Choices<'static> = Choices {
 /// Runs a service over tables in memory, which end with it.
 ///
 /// # Errors
-/// Those of [`run_service`].
-pub fn run_in_memory<H, B, R>(
+/// Those of [`run_service_on`].
+pub fn run_in_memory<H, B, I, W, R>(
     rt: &R,
     host: &HostRuntime,
     settings: Settings<'_>,
+    streams: Streams<I, W>,
 ) -> Result<(), RunFault>
 where
     H: Handler + Send + Sync,
     H::State: Send,
     H::Command: Send,
     B: Business<H>,
+    I: BufRead + Drop,
+    W: Write + Drop,
     R: Threads + Wait + Clock + Log + Sync,
 {
     let keep = PlainKeep::new(host.alloc());
-    run_service::<H, B, PlainKeep<H>, R>(rt, host, keep, settings.broker)
+    run_service_on::<H, B, PlainKeep<H>, I, W, R>(rt, host, keep, settings.broker, streams)
 }
 
-/// Prints on standard error why the program ends with status 1. The last line is the fault's number and name alone, so that
-/// scripts can compare it; its words stand above it.
-fn tell_fault(host: &HostRuntime, fault: RunFault) -> io::Result<u8> {
-    eprintln!(host; "{}\n{fault}", fault.words())?;
+/// Prints why the program ends with status 1. The last line is the fault's number and name alone, so that scripts can compare
+/// it; its words stand above it.
+fn tell_fault<E: Write>(err: &mut E, fault: RunFault) -> io::Result<u8>
+    ensures { IfOk result (λ status. status ≡ 1) }
+{
+    writeln!(err, "{}\n{fault}", fault.words())?;
     Ok(1)
 }
 
 /// Whether the words for the broker can stand in a CONNECT.
-fn try_greeting(host: &HostRuntime, broker: &Broker<'_>) -> Result<(), FrameFault> {
-    match broker.greet(host.alloc()) {
+fn try_greeting(alloc: Global, broker: &Broker<'_>) -> Result<(), FrameFault> {
+    match broker.greet(alloc) {
         Ok(_) => Ok(()),
         Err(fault) => Err(fault),
     }
 }
 
 /// These settings, if the words for the broker can stand in a CONNECT; else the status.
-fn try_settings<'a>(
-    host: &HostRuntime,
+fn try_settings<'a, E: Write>(
+    alloc: Global,
     settings: Settings<'a>,
+    err: &mut E,
 ) -> io::Result<Result<Settings<'a>, u8>> {
-    match try_greeting(host, &settings.broker) {
+    match try_greeting(alloc, &settings.broker) {
         Ok(()) => Ok(Ok(settings)),
-        Err(FrameFault::Memory) => Ok(Err(tell_fault(host, RunFault::Memory)?)),
+        Err(FrameFault::Memory) => Ok(Err(tell_fault(err, RunFault::Memory)?)),
         Err(_) => {
-            eprintln!(host; "{BAD_GREETING}")?;
+            writeln!(err, "{BAD_GREETING}")?;
             Ok(Err(2))
         }
     }
 }
 
-/// What the words of a program's command line ask for, the program's name first; or the status of a program that doesn't run,
-/// which has printed help, the version, or what is wrong with the words.
+/// What the words of a program's command line ask for, the program's name first; or the status of a program that doesn't run:
+/// then it has printed help or the version on `out`, or what is wrong with the words on `err`.
 ///
 /// # Errors
 /// Where a stream failed, or an allocation did.
-pub fn read_words<'a>(
-    host: &HostRuntime,
+pub fn read_words<'a, W: Write, E: Write>(
+    alloc: Global,
     program: ProgramText<'a>,
     words: &'a [String],
+    out: &mut W,
+    err: &mut E,
 ) -> io::Result<Result<Settings<'a>, u8>> {
-    match read_settings(host.alloc(), program, words) {
-        Ok(settings) => try_settings(host, settings),
+    match read_settings(alloc, program, words) {
+        Ok(settings) => try_settings(alloc, settings, err),
         Err(error) if error.kind() == WordFault::OutOfMemory => {
             Err(io::Error::from(ErrorKind::OutOfMemory))
         }
-        Err(error) => Ok(Err(tell_words(&mut host.stdout(), &mut host.stderr(), &error)?)),
+        Err(error) => Ok(Err(tell_words(out, err, &error)?)),
     }
 }
 
-/// The status of a service that has ended so. Why it's 1 is printed on standard error.
+/// The status of a service that has ended so. Why it's 1 is printed on `err`.
 ///
 /// # Errors
-/// Where standard error failed.
-pub fn status_of(host: &HostRuntime, ended: Result<(), RunFault>) -> io::Result<u8> {
+/// Where `err` failed.
+pub fn status_of<E: Write>(err: &mut E, ended: Result<(), RunFault>) -> io::Result<u8>
+    ensures { IfOk result (λ status. status ≡ status_of ended) }
+{
     match ended {
         Ok(()) => Ok(0),
-        Err(fault) => tell_fault(host, fault),
+        Err(fault) => tell_fault(err, fault),
     }
 }
 
@@ -146,23 +161,68 @@ pub fn status_of(host: &HostRuntime, ended: Result<(), RunFault>) -> io::Result<
 pub fn exit_code(host: &HostRuntime, usage: &str, ended: io::Result<u8>) -> io::Result<ExitCode> {
     let status = match ended {
         Ok(status) => status,
-        Err(error) => tell_error(host, error, usage)?,
+        Err(error) => tell_error(&mut host.stderr(), error, usage)?,
     };
     Ok(ExitCode::from(status))
 }
 
 /// Prints why the program couldn't begin, where there are words for that. The answer is the status.
-fn tell_error(host: &HostRuntime, error: io::Error, usage: &str) -> io::Result<u8> {
+fn tell_error<E: Write>(err: &mut E, error: io::Error, usage: &str) -> io::Result<u8> {
     match error.kind() {
-        ErrorKind::OutOfMemory => tell_fault(host, RunFault::Memory),
+        ErrorKind::OutOfMemory => tell_fault(err, RunFault::Memory),
         // Words that aren't UTF-8, which nothing else here is.
-        ErrorKind::InvalidData => tell_bad_words(&mut host.stderr(), usage),
+        ErrorKind::InvalidData => tell_bad_words(err, usage),
         // Standard output can't take help or the version. Where it was standard error, this isn't seen either.
-        _ => tell_fault(host, RunFault::Device),
+        _ => tell_fault(err, RunFault::Device),
     }
 }
 
-/// Runs a service over tables in memory by the words of the command line. The answer is the status.
+/// Runs the program of one service over tables in memory, by these words of its command line, the program's name first, until
+/// its input ends. The runtime is passed twice: only in `main` it has threads, and sockets need the system's own. What happens
+/// to connections is logged by the runtime.
+///
+/// The answer is the exit status: 0 at the end of the input; 1 where the store, a stream or the system failed; 2 where the words
+/// are at fault.
+///
+/// # Errors
+/// Where a stream can't take what is to be printed before the service begins or after it has ended, or an allocation failed
+/// before it begins.
+pub fn run_service_program<H, B, I, W, E, R>(
+    rt: &R,
+    host: &HostRuntime,
+    texts: Texts<'_>,
+    words: &[String],
+    streams: Streams<I, W>,
+    err: &mut E,
+) -> io::Result<u8>
+where
+    H: Handler + Send + Sync,
+    H::State: Send,
+    H::Command: Send,
+    B: Business<H>,
+    I: BufRead + Drop,
+    W: Write + Drop,
+    E: Write,
+    R: Threads + Wait + Clock + Log + Sync,
+{
+    let alloc = host.alloc();
+    let help = help_of(alloc, texts, IN_MEMORY)?;
+    let program = ProgramText {
+        texts,
+        choices: MEMORY,
+        help: help.as_str(),
+    };
+    let mut streams = streams;
+    match read_words(alloc, program, words, &mut streams.out, err)? {
+        Ok(settings) => {
+            let ended = run_in_memory::<H, B, I, W, R>(rt, host, settings, streams);
+            status_of(err, ended)
+        }
+        Err(status) => Ok(status),
+    }
+}
+
+/// Runs it by the words and on the standard streams of this process. The answer is the status.
 fn start<H, B, R>(rt: &R, host: &HostRuntime, texts: Texts<'_>) -> io::Result<u8>
 where
     H: Handler + Send + Sync,
@@ -171,34 +231,18 @@ where
     B: Business<H>,
     R: Threads + Wait + Clock + Log + Sync,
 {
-    let alloc = host.alloc();
-    let help = help_of(alloc, texts, IN_MEMORY)?;
-    let words: Vec<String> = env::args(host)?.collect(alloc)?;
-    let program = ProgramText {
-        texts,
-        choices: MEMORY,
-        help: help.as_str(),
-    };
-    match read_words(host, program, words.as_slice())? {
-        Ok(settings) => status_of(host, run_in_memory::<H, B, R>(rt, host, settings)),
-        Err(status) => Ok(status),
-    }
+    let words: Vec<String> = env::args(host)?.collect(host.alloc())?;
+    let streams = standard_streams(host)?;
+    let mut err = host.stderr();
+    run_service_program::<H, B, _, _, _, R>(rt, host, texts, words.as_slice(), streams, &mut err)
 }
 
-/// Runs the program of one service over tables in memory, by the words of its command line, until its standard input ends. It's
-/// the whole `main` of a program. The runtime is passed twice: only in `main` it has threads, and sockets need the system's
-/// own.
-///
-/// The exit status is 0 at the end of the input; 1 where the store, a stream or the system failed; 2 where the words of the
-/// command line are at fault.
+/// Runs the program of one service over tables in memory: the whole `main` of a process. It's [`run_service_program`] by the
+/// words of its command line, on its standard streams.
 ///
 /// # Errors
 /// Where standard error can't take what is to be printed.
-pub fn run_service_program<H, B, R>(
-    rt: &R,
-    host: &HostRuntime,
-    texts: Texts<'_>,
-) -> io::Result<ExitCode>
+pub fn run_main<H, B, R>(rt: &R, host: &HostRuntime, texts: Texts<'_>) -> io::Result<ExitCode>
 where
     H: Handler + Send + Sync,
     H::State: Send,

@@ -6,7 +6,7 @@ ghost use Rattle.service_program.specs.Silences.{given_up_from, reason};
 /// How long the broker may take to answer CONNECT, in milliseconds.
 const GREETING: u64 = 10_000;
 
-/// How long nothing has to have come on a connection until it's opened anew where all letters are settled, in milliseconds.
+/// How long nothing has to have come on a connection until it's reopened where all letters are settled, in milliseconds.
 /// There are no heart-beats: so a connection that a firewall forgot is found.
 const QUIET: u64 = 60_000;
 

@@ -7,9 +7,10 @@ ghost use Rattle.service_workers.specs.Conns.{values_of};
 ghost use Rattle.service_workers.specs.Lives.{LifeStands};
 ghost use Rattle.service_program.specs.Lives.{AreItsTokens, HaveServed, IsNamed, IsWhole};
 
-use crate::answers::answer_first;
+use crate::answers::{Desk, answer_first};
 use crate::board::Board;
 use crate::business::Business;
+use crate::console::{Streams, standard_streams};
 use crate::fault::RunFault;
 use crate::serving::{Served, keep_serving};
 use crate::sockets::{Broker, Reach, Site, Socket};
@@ -19,6 +20,7 @@ use keep::Keep;
 use log::Log;
 use service_workers::{Life, Naming, Past, Tokens, close_life};
 use shared_endpoint::{Seat, Shared};
+use std::io::{BufRead, Write};
 use std::marker::{Brand, PhantomData};
 use std::snapshot::Snapshot;
 use std::sync::{Mutex, Wait};
@@ -35,20 +37,46 @@ fn end_of(answered: io::Result<()>, board: &Board) -> Result<(), RunFault> {
     }
 }
 
+/// What a life of the service is run with.
+struct Tools<'a, I: BufRead + Drop, W: Write + Drop> {
+    site: Site<'a>,
+    desk: Desk<'a, I, W>,
+}
+
+/// Written by hand, so that an owner doesn't prove at each of its exits how each part is dropped.
+impl<'a, I: BufRead + Drop, W: Write + Drop> Drop for Tools<'a, I, W> {
+    fn drop(self) {
+        let Tools {
+            site: _,
+            desk: _desk,
+        } = self;
+    }
+}
+
+impl<'a, I: BufRead + Drop, W: Write + Drop> Tools<'a, I, W> {
+    /// What connections are opened with, and what lines are answered with.
+    fn into_parts(self) -> (Site<'a>, Desk<'a, I, W>) {
+        let Tools { site, desk } = self;
+        (site, desk)
+    }
+}
+
 /// What is left once all threads of the service have ended: how it ended, the seats and the tokens.
 type Done<H, K> = (Result<(), RunFault>, [Seat<H, K>; 16], Tokens<H, K>);
 
 /// Runs all threads of the service: one answers lines, and the others keep it connected until the lines end. Where none
-/// can be made for these, no line is answered.
-fn run_threads<N, L, H, B, K, R>(
+/// can be made for these, no line is answered: the service ends at once, and its tokens are returned.
+fn run_threads<N, L, H, B, K, I, W, R>(
     rt: &R,
-    site: Site<'_>,
+    tools: Tools<'_, I, W>,
     shared: &Shared<H, K>,
     seats: [Seat<H, K>; 16],
     tokens: Tokens<H, K>,
     past: &Mutex<Past<N, L, H, K>>,
 ) -> Done<H, K>
 where
+    I: BufRead + Drop,
+    W: Write + Drop,
     N: Naming<K, L> + Send + Sync,
     L: Reach,
     H: Handler + Send + Sync,
@@ -63,6 +91,7 @@ where
     ensures seats { AreSeatsOf shared.now result.1 }
     ensures served { HaveServed L.put_gives L.take_gives K.seen H.service N.sound N.given shared.now tokens result.2 }
 {
+    let (site, desk) = tools.into_parts();
     thread::scope(
         thread::scope_env(),
         rt,
@@ -88,14 +117,13 @@ where
             );
             match begun {
                 Ok(serving) => {
-                    let (answered, seats) = answer_first::<H, B, K, R>(
-                        rt, site.host, shared, seats, site.board,
+                    let (answered, seats) = answer_first::<H, B, K, I, W, R>(
+                        rt, shared, seats, desk,
                     );
                     let tokens = serving.join(rt);
                     let ended = end_of(answered, site.board);
                     (ended, seats, tokens)
                 }
-                // The service ends at once, and its tokens are returned.
                 Err(refused) => {
                     site.board.end();
                     (Err(RunFault::Memory), seats, (refused.value)())
@@ -109,9 +137,9 @@ where
 /// (`N.sound`) and its file isn't in doubt, all that was put on the links of its connections stands by the journal in the end.
 /// That journal begins with the one that was found; and what was processed since came in MESSAGEs on connections, or was held.
 /// So it is over whatever links.
-fn live<N, L, H, B, K, R>(
+fn live<N, L, H, B, K, I, W, R>(
     rt: &R,
-    site: Site<'_>,
+    tools: Tools<'_, I, W>,
     shared: Shared<H, K>,
     found: Snapshot<Endpoint<H, K>>,
     seats: [Seat<H, K>; 16],
@@ -125,6 +153,8 @@ where
     H::Command: Send,
     B: Business<H>,
     K: Keep<State = H::State, Command = H::Command> + Drop + Send,
+    I: BufRead + Drop,
+    W: Write + Drop,
     R: Threads + Wait + Clock + Log + Sync,
     requires named { IsNamed N.lock L.reached N.given shared }
     requires seats { AreSeatsOf shared seats }
@@ -137,11 +167,11 @@ where
         (values_of result.0.conns.items) }
 {
     let Tokens { mut hand, scout } = tokens;
-    let past = Past::<N, L, H, K>::new(site.host.alloc(), &shared, &mut hand);
+    let past = Past::<N, L, H, K>::new(tools.site.host.alloc(), &shared, &mut hand);
     let tokens = Tokens { hand, scout };
     let past = Mutex::new(past);
-    let (ended, seats, tokens) = run_threads::<N, L, H, B, K, R>(
-        rt, site, &shared, seats, tokens, &past,
+    let (ended, seats, tokens) = run_threads::<N, L, H, B, K, I, W, R>(
+        rt, tools, &shared, seats, tokens, &past,
     );
     let Tokens { hand, scout } = tokens;
     (
@@ -150,11 +180,10 @@ where
     )
 }
 
-/// Runs a service over its store: its threads keep it connected and answer the lines of the standard input, until these end.
-/// The runtime is given twice, since sockets need the system's own.
+/// Runs a service over its store, on the standard streams of the process.
 ///
 /// # Errors
-/// `Store` where the store failed, `Device` where a stream or the system did, `Memory` where an allocation failed at the start.
+/// Those of [`run_service_on`].
 pub fn run_service<H, B, K, R>(
     rt: &R,
     host: &HostRuntime,
@@ -169,8 +198,40 @@ where
     K: Keep<State = H::State, Command = H::Command> + Drop + Send,
     R: Threads + Wait + Clock + Log + Sync,
 {
+    match standard_streams(host) {
+        Ok(streams) => { run_service_on::<H, B, K, _, _, R>(rt, host, keep, broker, streams) }
+        Err(error) => Err(RunFault::of_kind(error.kind())),
+    }
+}
+
+/// Runs a service over its store: its threads keep it connected and answer the lines of its input, until these end. The runtime
+/// is given twice, since sockets need the system's own.
+///
+/// # Errors
+/// `Store` where the store failed, `Device` where a stream or the system did, `Memory` where an allocation failed at the start.
+pub fn run_service_on<H, B, K, I, W, R>(
+    rt: &R,
+    host: &HostRuntime,
+    keep: K,
+    broker: Broker<'_>,
+    streams: Streams<I, W>,
+) -> Result<(), RunFault>
+where
+    I: BufRead + Drop,
+    W: Write + Drop,
+    H: Handler + Send + Sync,
+    H::State: Send,
+    H::Command: Send,
+    B: Business<H>,
+    K: Keep<State = H::State, Command = H::Command> + Drop + Send,
+    R: Threads + Wait + Clock + Log + Sync,
+{
     let board = match Board::new(host, host.alloc()) {
         Ok(board) => board,
+        Err(error) => return Err(RunFault::of_kind(error.kind())),
+    };
+    let desk = match Desk::new(host, host.alloc(), &board, streams) {
+        Ok(desk) => desk,
         Err(error) => return Err(RunFault::of_kind(error.kind())),
     };
     let site = Site {
@@ -178,6 +239,7 @@ where
         broker,
         board: &board,
     };
+    let tools = Tools { site, desk };
     let endpoint = Endpoint::new(keep);
     let found = Snapshot::of(&endpoint);
     match Shared::<H, K>::open(rt, host.alloc(), endpoint) {
@@ -186,8 +248,8 @@ where
                 hand: opened.2,
                 scout: opened.3,
             };
-            let (_life, ended) = live::<Brand, Socket, H, B, K, R>(
-                rt, site, opened.0, found, opened.1, tokens,
+            let (_life, ended) = live::<Brand, Socket, H, B, K, I, W, R>(
+                rt, tools, opened.0, found, opened.1, tokens,
             );
             ended
         }

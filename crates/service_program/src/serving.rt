@@ -8,7 +8,7 @@ use crate::board::Board;
 use crate::gate::BoardGate;
 use crate::overdue::Overdue;
 use crate::pulse::{Pulse, Silence};
-use crate::sockets::{Reach, Site, open};
+use crate::sockets::{Broker, Reach, Site, open};
 use activities::Handler;
 use keep::Keep;
 use log::{Log, info, warn};
@@ -18,9 +18,9 @@ use std::alloc::Global;
 use std::marker::PhantomData;
 use std::snapshot::Snapshot;
 use std::sync::{Mutex, Wait};
-use std::thread;
 use std::thread::{Promise, Threads};
 use std::time::{Clock, Duration};
+use std::{io, thread};
 
 /// How long it is until the threads are started again after an allocation for them failed, in milliseconds.
 const MOMENT: u64 = 100;
@@ -101,7 +101,7 @@ where
         let number = self.watched.number;
         match open(site, number, &mut self.line) {
             Ok(()) => {
-                info!(rt; "connection {number} is open");
+                log_open(rt, number, site.broker);
                 site.board.openings.note();
                 let now = site.board.now(rt);
                 site.board.backoff.lock(rt).note_opened(now);
@@ -110,7 +110,7 @@ where
                 true
             }
             Err(error) => {
-                warn!(rt; "connection {number} can't be opened: {error}");
+                log_unopened(rt, number, site.broker, &error);
                 false
             }
         }
@@ -170,7 +170,7 @@ where
             None => (),
             Some(Silence::Quiet) if has_unsettled => self.watched.pulse.hear(now),
             Some(silence) => {
-                tell_silence(rt, self.watched.number, silence);
+                log_silence(rt, self.watched.number, silence);
                 self.leave(rt, alloc, board);
             }
         }
@@ -197,14 +197,31 @@ where
     }
 }
 
+/// Logs that a connection is open, and where to: who meant another broker, or another of its hosts, sees it here.
+fn log_open<R: Log>(rt: &R, number: u8, broker: Broker<'_>) {
+    let Broker {
+        address,
+        port,
+        host,
+        ..
+    } = broker;
+    info!(rt; "connection {number} is open to {address}:{port}, host {host}")
+}
+
+/// Logs that a connection can't be opened, and why.
+fn log_unopened<R: Log>(rt: &R, number: u8, broker: Broker<'_>, error: &io::Error) {
+    let Broker { address, port, .. } = broker;
+    warn!(rt; "connection {number} can't be opened to {address}:{port}: {error}")
+}
+
 /// Logs why a connection is reopened.
-fn tell_silence<R: Log>(rt: &R, number: u8, silence: Silence) {
+fn log_silence<R: Log>(rt: &R, number: u8, silence: Silence) {
     match silence {
         Silence::Unanswered => {
-            warn!(rt; "connection {number}: CONNECT isn't answered: it's opened anew")
+            warn!(rt; "connection {number}: CONNECT isn't answered: it's reopened")
         }
-        Silence::Quiet => info!(rt; "connection {number}: nothing comes: it's opened anew"),
-        Silence::Old => info!(rt; "connection {number} is an hour old: it's opened anew"),
+        Silence::Quiet => info!(rt; "connection {number}: nothing comes: it's reopened"),
+        Silence::Old => info!(rt; "connection {number} is an hour old: it's reopened"),
     }
 }
 
@@ -385,8 +402,8 @@ where
     ensures served { HaveServed L.put_gives L.take_gives K.seen H.service N.sound N.given shared.now tokens result.0 }
 {
     let stop = Stop::new();
-    let turn = BoardGate::new(site.board, &stop);
     let alloc = site.host.alloc();
+    let turn = BoardGate::new(alloc, site.board, &stop);
     let Conns { zero, one } = conns;
     let Slot {
         line: zero,

@@ -1,7 +1,9 @@
 //! The first letter that isn't settled, as the line `status` shows it.
 
-use crate::rows::push_entity;
-use base::Entity;
+ghost use Rattle.std.specs.Prelude.{◌≡◌, string_bytes, if◌then◌else◌};
+ghost use Rattle.std.specs.Str.{bytes_eq};
+
+use crate::rows::show_entity;
 use envelope::Letter;
 use std::alloc::{AllocError, Global};
 
@@ -15,17 +17,6 @@ pub struct Waiting {
     since: u64,
 }
 
-/// An entity's text with its escapes, so that the line can be read as words.
-fn shown(alloc: Global, entity: &Entity) -> Result<String, AllocError> {
-    let mut octets = Vec::new(alloc);
-    push_entity(&mut octets, entity)?;
-    match str::from_utf8(octets.as_slice()) {
-        Ok(text) => String::from_str(alloc, text),
-        // An entity's text is UTF-8, and escapes are ASCII.
-        Err(_) => Ok(String::new(alloc)),
-    }
-}
-
 /// The pair and the number of the first of these letters, or nothing.
 ///
 /// # Errors
@@ -34,8 +25,8 @@ pub fn show_first(alloc: Global, letters: &[Letter]) -> Result<String, AllocErro
     let Some(letter) = letters.first() else {
         return Ok(String::new(alloc));
     };
-    let from = shown(alloc, &letter.pair.from)?;
-    let to = shown(alloc, &letter.pair.to)?;
+    let from = show_entity(alloc, &letter.pair.from)?;
+    let to = show_entity(alloc, &letter.pair.to)?;
     format!(in alloc; "{from} {to} {}", letter.number.get())
 }
 
@@ -49,11 +40,15 @@ impl Waiting {
     }
 
     /// This letter is the first that isn't settled now. Only another one begins to wait now.
-    pub fn note(&mut self, letter: String, now: u64) {
-        if self.letter != letter {
+    pub fn note(&mut self, letter: String, now: u64)
+        ensures letter { string_bytes self.new.letter ≡ string_bytes letter }
+        ensures since { self.new.since ≡ (if bytes_eq (string_bytes self.old.letter) (string_bytes letter)
+            then self.old.since else now) }
+    {
+        if self.letter.as_str() != letter.as_str() {
             self.since = now;
-            self.letter = letter;
         }
+        self.letter = letter;
     }
 
     /// The letter, and for how many seconds it has been the first; or `none`.

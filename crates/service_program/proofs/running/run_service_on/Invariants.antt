@@ -1,7 +1,7 @@
 use Rattle.std.specs.Prelude.{Some, ⊤}
 use Rattle.shared_endpoint.specs.Keys.{name_of}
 use Rattle.service_program.specs.Lives.{IsWhole}
-use Rattle.service_program.proofs.running.run_service.Given as goal
+use Rattle.service_program.proofs.running.run_service_on.Given as goal
 
 abbrev pub ghosts-live : goal.ghosts-live
 ghosts-live g a = record {
