@@ -58,13 +58,18 @@ class Room:
     def check(self, texts, bodies):
         """What a check of these bodies' functions prints with these texts in the files' place."""
         functions = sorted({it for body in bodies for it in body.functions})
-        before = {file: pathlib.Path(self.folder, file).read_text("utf-8") for file in texts}
+        paths = {file: pathlib.Path(self.folder, file) for file in texts}
+        before = {file: path.read_text("utf-8") if path.is_file() else None for file, path in paths.items()}
         for file, text in texts.items():
-            pathlib.Path(self.folder, file).write_text(text, "utf-8")
+            paths[file].parent.mkdir(parents=True, exist_ok=True)
+            paths[file].write_text(text, "utf-8")
         said = subprocess.run([*self.words, *(word for it in functions for word in ("--only", it))], cwd=self.folder, text=True,
                               errors="replace", stdout=subprocess.PIPE, stderr=subprocess.STDOUT, check=False).stdout
         for file, text in before.items():
-            pathlib.Path(self.folder, file).write_text(text, "utf-8")
+            if text is None:
+                paths[file].unlink()
+            else:
+                paths[file].write_text(text, "utf-8")
         return Told(self.crate, said)
 
 
@@ -108,11 +113,17 @@ def tell(body, how, by):
     print(f"    {body.pairs[0][2].strip()[:130]}")
 
 
-def one(crate, wanted, is_alone):
-    """Tries the bodies of a crate, or those of these names, and prints how each was taken."""
+def chosen(crate, wanted, is_alone=False):
+    """The bodies of a crate, or those of these names."""
     found = [it for edit in edits_of(crate) for it in bodies_of(edit, is_alone) if not wanted or {it.name, it.edit} & wanted]
     if not found:
         fail(f"{crate} has no such edits")
+    return found
+
+
+def one(crate, wanted, is_alone):
+    """Tries the bodies of a crate, or those of these names, and prints how each was taken."""
+    found = chosen(crate, wanted, is_alone)
     bring_up_to_date(crate)
     results = try_bodies(crate, found, tell)
     counts = collections.Counter(how for how, _ in results.values())
@@ -120,10 +131,37 @@ def one(crate, wanted, is_alone):
     return 0 if counts.keys() <= {CLAUSE, GOAL, ANSWER} else 1
 
 
+def control(crate, wanted):
+    """Tries the right bodies with what these edits change in proofs/, and prints whether they are proved. Edits that change the same there
+    are tried once. What they add is for goals of their own bodies, and is left out."""
+    tried, names = {}, collections.defaultdict(list)
+    for body in chosen(crate, wanted):
+        # Its functions are those that it changes in src/, so they are noted before these changes are left out.
+        if applied(body, folder_of(crate), notes=True) is None:
+            fail(f"{crate}/{body.name}: an old text isn't once in its file")
+        body.pairs = [it for it in body.pairs if it[0].startswith("proofs/") and it[1]]
+        if body.pairs:
+            names[tried.setdefault((*body.pairs, *sorted(body.functions)), body)].append(body.name)
+    if not tried:
+        fail(f"{crate}: no such edit changes proofs/")
+    bring_up_to_date(crate)
+
+    def tell_control(body, how, by):
+        said = "proved" if how == THROUGH else f"open: {how.removeprefix('refused by ')}: {by[:200]}"
+        for name in names[body]:
+            print(f"{name} in {' and '.join(sorted(body.functions))}: {said}", flush=True)
+
+    results = try_bodies(crate, [*tried.values()], tell_control)
+    proved = sum(len(names[body]) for body, (how, _) in results.items() if how == THROUGH)
+    count = sum(map(len, names.values()))
+    print(f"{crate}: {count} edits change proofs/: of {proved} the right body is proved, of {count - proved} it is open")
+    return 0 if proved == count else 1
+
+
 def sum_of(crate):
     """A sum of what the trial of a crate's bodies rests on in the crate itself."""
     found = hashlib.sha256()
-    for part in (*PARTS, "must-fail", "tried"):
+    for part in (*PARTS, "tried"):
         for path in sorted((folder_of(crate) / part).rglob("*")):
             if path.is_file():
                 found.update(repr((str(path.relative_to(TOP)), path.read_bytes())).encode())

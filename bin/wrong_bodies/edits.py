@@ -31,7 +31,7 @@ def folder_of(crate):
 
 
 def edits_of(crate):
-    return [it for part in ("must-fail", "tried") for it in sorted(glob.glob(f"{folder_of(crate)}/{part}/*.edit"))]
+    return sorted(glob.glob(f"{folder_of(crate)}/tried/*.edit"))
 
 
 def crates_with_edits():
@@ -39,17 +39,22 @@ def crates_with_edits():
     return [it for it in lines_of(TOP / "crates.txt") if edits_of(it)]
 
 
+def spelled_out(file, text):
+    """A text of an edit, as it is in its file. Of a proof file `\\n` ends a line: two answers of a file often have a line in common."""
+    return text.replace("\\n", "\n") if file.startswith("proofs/") else text
+
+
 def bodies_of(edit, is_alone=False):
     name, bodies, file, old = os.path.basename(edit)[: -len(".edit")], [], None, None
     for line in pathlib.Path(edit).read_text("utf-8").split("\n"):
         if line.startswith("file: "):
             file = line[6:].strip()
-        elif line.startswith("old: "):
-            old = line[5:]
+        elif line.startswith("old:"):
+            old = spelled_out(file, line[4:].removeprefix(" "))
         elif line.startswith("new:"):
             if not bodies or name in MANY and not old.startswith("use "):
                 bodies.append(Body(f"{MANY[name]}-{len(bodies) + 1:02}" if name in MANY else name, name, is_alone))
-            bodies[-1].pairs.append((file, old, line[4:].removeprefix(" ")))
+            bodies[-1].pairs.append((file, old, spelled_out(file, line[4:].removeprefix(" "))))
     return bodies
 
 
@@ -72,16 +77,30 @@ def function_at(file, text, at):
     return re.sub(r".*::([A-Z][\w+]*::\w+)$", r"\1", path)
 
 
+def text_of(folder, file):
+    """The text of a file, which is empty where an edit makes the file."""
+    path = pathlib.Path(folder, file)
+    return path.read_text("utf-8") if path.is_file() else ""
+
+
+def changed(file, text, old, new):
+    """The text of a file with a pair's new text in place of the old one, which has to be there once: else None. Where a pair of a file of
+    proofs/ has no old text, the new one is a further line at the end."""
+    if not old:
+        return f"{text}{new}\n" if file.startswith("proofs/") else None
+    return text.replace(old, new) if text.count(old) == 1 else None
+
+
 def applied(body, folder, notes=False):
     """The texts of the files that a body changes; None where an old text isn't there once. `notes`: it notes the functions of the body."""
     texts = {}
     for file, old, new in body.pairs:
-        texts.setdefault(file, pathlib.Path(folder, file).read_text("utf-8"))
-        if texts[file].count(old) != 1:
+        before = texts.setdefault(file, text_of(folder, file))
+        texts[file] = changed(file, before, old, new)
+        if texts[file] is None:
             return None
         if notes and not old.startswith("use ") and file.startswith("src/"):
-            body.functions.add(function_at(file, texts[file], texts[file].find(old) + len(old) - 1))
-        texts[file] = texts[file].replace(old, new)
+            body.functions.add(function_at(file, before, before.find(old) + len(old) - 1))
     return texts
 
 
@@ -116,10 +135,9 @@ def stale_texts(crate):
         for body in bodies:
             texts = {} if name == "more.edit" else texts
             for file, old, new in body.pairs:
-                if file not in texts and (folder / file).is_file():
-                    texts[file] = (folder / file).read_text("utf-8")
-                count = texts.get(file, "").count(old)
-                if count != 1:
-                    found.append(f"{crate}/{name}: {file} has {count} times, and not once: {old.strip()[:100]}")
-                texts[file] = texts.get(file, "").replace(old, new)
+                before = texts.setdefault(file, text_of(folder, file))
+                texts[file] = changed(file, before, old, new)
+                if texts[file] is None:
+                    found.append(f"{crate}/{name}: {file} has {before.count(old)} times, and not once: {old.strip()[:100]}")
+                    texts[file] = before.replace(old, new)
     return found

@@ -1,8 +1,12 @@
 """How a check's words judge wrong bodies, many of them in rounds of one check each."""
 import re
 
+from wrong_bodies.edits import changed, text_of
+
 CLAUSE, GOAL, ANSWER, NAMES = (f"refused by {it}" for it in ("a clause", "an open goal", "an answer", "names alone"))
 THROUGH, BROKEN, UNJUDGED = "LET THROUGH", "DOESN'T COMPILE", "NOT JUDGED"
+# What a check prints of an answer in which a search finds no proof.
+OPEN = "`search`: no proof of"
 
 
 class Told:
@@ -26,15 +30,19 @@ class Told:
         paths = [it for it in self.lines if f"::{it}".endswith(f"::{function}")]
         return paths[0] if function not in self.lines and len(paths) == 1 else function
 
-    def judge(self, function):
-        """How the function was refused and by what, or that it was let through; None where it cannot be judged."""
+    def judge(self, function, texts=()):
+        """How the function was refused and by what, or that it was let through; None where it cannot be judged. `texts` are of the files
+        that edits change: what a search in such an answer finds no proof of is an open goal."""
         path = self.path_of(function)
         goals = self.goals.get(path, [])
         ensured = [goal for what, goal in goals if "what the function ensures" in what]
-        own = [said for file, _, said in self.proofs if file.startswith(f"proofs/{path.replace('::', '/')}/")]
+        answers = [(file, said) for file, _, said in self.proofs if file.startswith(f"proofs/{path.replace('::', '/')}/")]
+        own = [said for _, said in answers]
         fits = [said for said in own if not re.search(r"has no field|is not in scope|has no `|was not admitted", said)]
         if goals:
             return (CLAUSE, ", ".join(ensured)) if ensured else (GOAL, ": ".join(goals[0]))
+        if own and all(file in texts and OPEN in said for file, said in answers):
+            return GOAL, own[0].strip(": ")
         if own:
             return (ANSWER if fits else NAMES), (fits or own)[0].strip(": ")
         return (THROUGH, "") if self.lines.get(path) == "proved" else None
@@ -49,7 +57,7 @@ def judge_round(chosen, texts, told):
             if len(chosen) == 1 or any(pair[0] == file and pair[2].strip() in line for pair in body.pairs):
                 found[body] = UNJUDGED if "stopped at the step limit" in said else BROKEN, said
     for body in [] if told.errors else chosen:
-        judged = sorted(filter(None, map(told.judge, body.functions)), key=lambda it: it[0] == THROUGH)
+        judged = sorted(filter(None, (told.judge(it, texts) for it in body.functions)), key=lambda it: it[0] == THROUGH)
         if judged and (judged[0][0] != THROUGH or len(judged) == len(body.functions)):
             found[body] = judged[0]
     return found
@@ -60,10 +68,9 @@ def put_together(chosen, folder):
     texts = {}
     for body in chosen:
         for file, old, new in body.pairs:
-            texts.setdefault(file, (folder / file).read_text("utf-8"))
-            if texts[file].count(old) != 1:
+            texts[file] = changed(file, texts[file] if file in texts else text_of(folder, file), old, new)
+            if texts[file] is None:
                 return None
-            texts[file] = texts[file].replace(old, new)
     return texts
 
 
