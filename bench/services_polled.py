@@ -6,6 +6,7 @@ usage: bench/services_polled.py purchasing|warehouse|billing PORT FILE [POLL]   
 It answers `place KEY STOCK N ACCOUNT AMOUNT`, `receive KEY N`, `limit KEY N`, `show order/KEY` and `await N` as outbox-service does.
 """
 import json
+import pathlib
 import sqlite3
 import sys
 import threading
@@ -13,7 +14,11 @@ import time
 
 import pika
 
-SERVICES = ("purchasing", "warehouse", "billing")
+sys.dont_write_bytecode = True
+sys.path.insert(0, str(pathlib.Path(__file__).resolve().parent.parent / "runs"))
+
+from parts.services import SERVICES
+
 TABLES = """
 CREATE TABLE IF NOT EXISTS outbox (id INTEGER PRIMARY KEY AUTOINCREMENT, queue TEXT NOT NULL, body TEXT NOT NULL);
 CREATE TABLE IF NOT EXISTS inbox (id TEXT PRIMARY KEY);
