@@ -5,6 +5,7 @@ ghost use Rattle.activities.specs.OwnRefusals.{IsOwnNumber, own, own_number};
 
 use std::fmt::{self, Display, Formatter, Write};
 
+// A refusal has a number and no word, since contracts compare faults as values, and a borrowed text isn't one.
 /// A refusal of a business of one's own: a number from 75 to 99. What it means is for the business to say; its word is
 /// told by `Handler::refusal_word`.
 #[derive(Clone, Copy, Debug, PartialEq, Eq)]

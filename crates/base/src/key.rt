@@ -8,6 +8,8 @@ use crate::limits::MAX_KEY;
 use std::alloc::{AllocError, Global};
 use std::marker::Model;
 
+// A type, so that a key that was read once needs no second test. UTF-8 costs no test either, since every `&str` is, and
+// lets a store keep the key in a text column.
 /// What tells an entity from the others of its kind: 1 to 64 octets of UTF-8 and no NUL. Contracts see the octets.
 #[derive(Debug, Drop)]
 pub struct Key {

@@ -22,6 +22,7 @@ pub const MAX_HEADERS: usize = 32;
 /// Octets of a line without its end of line.
 pub const MAX_LINE: usize = 1_024;
 
+// A broker's sessions always have this limit, since their refusals have fixed words.
 /// Octets of a frame's body: of use from 1 to 99,999,999, the greatest length that eight digits tell.
 pub const MAX_BODY: usize = 1_048_576;
 

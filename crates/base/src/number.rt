@@ -6,6 +6,8 @@ ghost use Rattle.base.specs.Number.{IsNumber};
 use crate::limits::MAX_NUMBER;
 use std::marker::Model;
 
+// A type, so that each letter that can be made can be sent, and no addition wraps. A settle that is still to be written
+// has any `u64`, and is refused outside of this range.
 /// A number from 1 to 2^40: of a letter among those of its pair, or a quantity or amount that a message asks for.
 #[derive(Clone, Copy, Debug, PartialEq, Eq, PartialOrd, Ord)]
 pub struct Number {

@@ -17,6 +17,8 @@ pub trait Window {
         ensures { IsOfRank ahead handled letter.now result };
 }
 
+// A type of its own: with a const parameter on a struct that holds a store, each generic caller would have to show that
+// the struct is smaller than 2^63.
 /// The number `AHEAD`.
 #[derive(Clone, Copy, Debug)]
 pub struct Ahead<const AHEAD: u64> {}

@@ -144,6 +144,7 @@ impl<M: Drop> IntakeWorker<M> {
         ensures zero { AreFirst result.zero (taken_of 0 self) (put_by zero) }
         ensures one { AreFirst result.one (taken_of 1 self) (put_by one) }
     {
+        // Both, in their order: with an array each clause would need a default by which to name one of them.
         let IntakeReader {
             number: _,
             to: _,

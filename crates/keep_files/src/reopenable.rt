@@ -12,6 +12,7 @@ use sqlite::{Alter, Connection, Error, ErrorCode, FileStore, Files, Options};
 use sqlite_disk::Disk;
 use std::alloc::Global;
 
+// A trait of its own, so that a store with an open connection never asks whether it is open.
 /// A store over files that outlive it.
 pub trait Reopenable: Alter {
     /// The files, closed.

@@ -454,6 +454,9 @@ impl<H: Filed, D: Start> SqliteKeep<H, FileStore<FileFrom<D>>> {
             → IsNothing (image_at D.Start)
             → (⟦<SqliteKeep<H, FileStore<FileFrom<D>>> as Keep>⟧.seen k).tables ≡ empty) }
     {
+        // A file that is missing or empty is new, whatever its log holds, as to SQLite. Refusing such a pair would save
+        // the log of a file that was moved away. But a power cut amid the making of a file may leave the same pair:
+        // `runs/cut-power` found services that would not start any more.
         SqliteKeep::adopt_opened(rt.alloc(), Connection::open_from(rt, path, false, start))
     }
 }

@@ -27,6 +27,7 @@ pub fn opening_fault(error: &Error) -> KeepFault
 {
     match error {
         Error::SqliteFailure(ErrorCode::OutOfMemory) => KeepFault::Memory,
+        // The kit says this of a file with a dangling reference too.
         Error::SqliteFailure(ErrorCode::NotADatabase) => KeepFault::WrongFile,
         _ => KeepFault::Failed,
     }

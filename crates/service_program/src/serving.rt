@@ -452,6 +452,8 @@ where
     requires tokens { AreItsTokens K.seen H.service N.sound shared.now tokens }
     ensures served { HaveServed L.put_gives L.take_gives K.seen H.service N.sound N.given shared.now tokens result }
 {
+    // Not a `&mut`, which two closures would take: the borrow checker doesn't cover that. And a thread can only return
+    // what is `Drop`, which this list isn't.
     let mut past = past.lock(rt);
     let alloc = site.host.alloc();
     let board = site.board;

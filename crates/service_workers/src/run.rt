@@ -10,6 +10,8 @@ use std::alloc::{AllocError, Global};
 use std::sync::{Mutex, Wait};
 use stomp_wire::Link;
 
+// That the parts of a run may cross threads is shown by hand (`Crossing`): for types with snapshots the prover would
+// search to its limit.
 /// One run of a service: what its threads share. Each thread has a copy.
 pub(crate) struct Run<'a, N, M, L, H, K, G, R>
 where

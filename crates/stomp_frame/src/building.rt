@@ -12,7 +12,8 @@ use base::limits::MAX_HEADERS;
 pub fn refused_behind(command: Command, count: usize, name: &str, value: &str) -> Option<FrameFault>
     ensures { result ≡ refused_behind command count (header name.now value.now) }
 {
-    // `content-length` is for the encoder alone, which writes it of the body that is there.
+    // `content-length` is for the encoder alone, which writes it of the body that is there: one that a frame carried
+    // could contradict its body.
     if is_bad(command, name, value) || name == "content-length" {
         Some(FrameFault::BadLine)
     } else if is_long(command, name, value) {

@@ -142,6 +142,7 @@ impl<const BODY: usize> Decoder<BODY> {
         } else {
             // A frame that isn't whole fits into it, and a piece.
             // With less room each piece of a long body would move those before it, at quadratic cost.
+            // Half of the room that is promised: memory before the front isn't reported, and may be as much again.
             let most = BODY.saturating_mul(2).max(held);
             shrink(self.alloc, &mut self.octets, most, held);
         }

@@ -104,6 +104,7 @@ pub fn write_error(
 ) -> Result<(), SessionFault>
     ensures { Writes (error_frame number name.now (option_copied receipt.entry)) out.old.items out.new.items result }
 {
+    // By number and name, so that a server can report faults that a session doesn't know.
     let headers = error_headers(alloc, number, name, receipt)?;
     write(Command::Error, &[], &headers, &[], out)
 }

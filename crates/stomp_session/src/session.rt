@@ -23,6 +23,7 @@ pub struct Refused {
 /// A session of a client: contracts see whether it is connected.
 #[derive(Clone, Copy, Debug, Drop)]
 pub struct ServerSession {
+    // Also after DISCONNECT: its server remembers that it is closed.
     connected: bool,
 }
 

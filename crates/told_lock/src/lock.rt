@@ -23,6 +23,8 @@ const TRIES: u32 = 64;
 /// What a token of the lock carries: it allocates nothing, and contracts see what the token knows.
 pub type Key<T> = Pass<T, Known<T>>;
 
+// Not the kit's `Mutex`: that promises of its value only what the value's type says, and here each token has to
+// know what it saw.
 /// A lock round a value. It's a channel of room for one, which carries the value: who receives it has the lock, and
 /// returns it by sending it.
 #[derive(Drop)]

@@ -32,6 +32,7 @@ impl Item {
     }
 }
 
+// Any list: none, nine, one stock twice. The handler refuses a bad list, so a bad one has to be a value.
 /// Items in the order in which they are asked for: contracts see their list.
 #[derive(Debug, Drop)]
 pub struct Items {

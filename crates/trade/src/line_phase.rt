@@ -5,6 +5,7 @@ ghost use Rattle.activities.specs.Words.{IsWordReading};
 ghost use Rattle.trade.specs.Lines.{same_phase};
 ghost use Rattle.trade.specs.Words.{stock_line_word, account_line_word};
 
+// Shipped and billed are one phase, so that one proof serves both services.
 /// How far a stock or an account is with one order.
 #[derive(Clone, Copy, Debug, PartialEq, Eq)]
 pub enum LinePhase {
