@@ -37,7 +37,7 @@ pub fn add_command<S: Alter>(
         → KeepsCommit (state S.Store tx.old.conn.now) (state S.Store tx.new.conn.now) }
     ensures survives { Survives (state S.Store tx.old.conn.now) (state S.Store tx.new.conn.now) (λ _. ⊥) }
 {
-    // No position is bound: SQLite gives the row the one after the last.
+    // No position is bound: SQLite gives the row the one after the last, so that no caller's has to be trusted.
     write(
         tx,
         "INSERT INTO journal (entity, seat, body) VALUES (?1, ?2, ?3)",
