@@ -23,6 +23,7 @@ use stomp_session::Text;
 #[derive(Drop)]
 pub struct Active {
     pub alloc: Global,
+    // With copies, dropping a session with a message out on each of 64 queues allocated 68 times.
     pub names: Vec<Shared<Text>>,
     pub all: bool,
 }

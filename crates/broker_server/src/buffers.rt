@@ -10,6 +10,8 @@ const SPARES: usize = 8;
 /// The octets of a block of the reserve: allocators serve what is much larger from elsewhere, and give it back to the
 /// system.
 // Two of them are enough for bodies of 90,000 octets.
+// A third one, of 1.1 MiB, was tried: waiting frames took what was left of it, and queues of bodies of 50,000 octets
+// came to a stop.
 const BLOCK: usize = 98_304;
 
 /// A buffer that connections are read into, and spare ones: where a session has no memory for what was read, the buffer

@@ -53,6 +53,7 @@ fn level_of(word: &str) -> Option<LevelFilter>
 }
 
 /// The address of a text, with a port.
+// An address and no name: so it opens what was written, whatever a resolver says.
 fn address_of(text: &str, port: u16) -> Option<SocketAddr>
     ensures { MatchOption result ((ip : IpAddr) → ¬ (IsIpText text.now ip)) (IsHostAndPort text.now port) }
 {

@@ -15,9 +15,12 @@ use std::convert::AsStr;
 pub const USAGE: &str = "outbox-broker --port <PORT> [--listen <ADDRESS>] [OPTIONS]";
 
 /// Where it listens, where nothing else is said.
+// There is no login and no TLS.
 const ADDRESS: &str = "127.0.0.1";
 
 /// What is told, where nothing else is said.
+// What an operator has to act on. Not `warn`: hostile clients could fill a pipe that nobody reads, and while standard
+// error takes nothing nobody is served.
 const LEVEL: &str = "error";
 
 /// What `--version` tells behind the program's name.
@@ -79,12 +82,15 @@ pub struct Settings<'a> {
     /// The text of the address to listen on.
     pub address: &'a str,
     /// Whether it ends when its standard input does.
+    // The one way to end with status 0, as the kit has no signal handlers. Otherwise nothing is read: what starts a
+    // server in the background mostly gives it an input that has ended.
     pub until_input_ends: bool,
     /// The word for what is told.
     pub log: &'a str,
     /// After how many seconds figures are told, again and again.
     pub figures: Option<u64>,
     /// For how many seconds a connection may be silent.
+    // None unless asked for: a receiver in mode `auto` never sends, and no heart-beats are offered.
     pub idle: Option<u64>,
     /// How many octets may be held.
     pub memory: Option<u64>,

@@ -72,6 +72,7 @@ where
 }
 
 /// Whether the partners of an order agree. One read of purchasing's store, and one for each partner.
+// The order is looked at too: partners alone would agree if all of them had lost their lines of a confirmed order.
 fn order_agrees<KO, KS, KA>(
     alloc: Global,
     purchasing: &mut Endpoint<Orders, KO>,

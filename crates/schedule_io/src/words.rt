@@ -113,7 +113,7 @@ fn make_command<'a>(alloc: Global, keeps: &'a [&'a str]) -> Result<Command<'a>, 
         .action(ArgAction::Set)
         .value_name("PATH")
         .help("With `--keep sqlite`: in this folder, in three files that SQLite reads")
-        // The files of an empty path would be in the root of the file system.
+        // Empty, it would name the root of the file system. With `plain` it is ignored: so one word turns files off.
         .value_parser(ValueParser::NonEmptyString);
     let migrate = Arg::new(alloc, "migrate")
         .long("migrate")

@@ -47,6 +47,7 @@ impl Mail {
     }
 
     /// Sends it in a session of its own.
+    // A session of its own needs no further call of the broker. What the broker accepted then shows whether the SEND was.
     fn send_again(&mut self, sent: &Sent) -> Result<Option<u64>, RepeatFault>
         ensures { SendsAgain sent.now self.old self.new result }
     {

@@ -29,6 +29,8 @@ fn is_quiet(line: &str) -> bool
 }
 
 /// Whether a line has more octets or more words than any event, so that none of them need be kept.
+// So a line of 100 MB takes its text, and not 2.8 GB. The limit is no part of the format: a law derives it from those
+// of keys and numbers.
 fn exceeds_events(line: &str) -> bool
     ensures { result ≡ (nat_lt LONGEST_LINE (length line.now) || nat_le MOST_WORDS (count_by (λ o. o == 32) line.now)) }
 {

@@ -30,6 +30,7 @@ const TURNS: u32 = 1_000_000;
 const MOMENT: u64 = 1;
 
 /// How long it's waited for a line or an answer at once, in milliseconds.
+// Bounded: if the store has failed the program ends, though no line comes.
 const PATIENCE: u64 = 500;
 
 /// Where lines come from and where their answers go.
@@ -141,6 +142,8 @@ impl<'a, I: BufRead + Drop, W: Write + Drop> Desk<'a, I, W> {
     /// goes whoever could want them. Whether it has waited.
     fn wait_for_rows<R: Wait>(&mut self, rt: &R) -> io::Result<bool> {
         let board = self.board;
+        // Whoever closes the input of a program that waits wants it to end. But lines that come at once, as from a
+        // file, end long before their answers: so the input is over only where no line is left of it.
         if board.life.has_ended() || self.input.is_over()? {
             return Ok(false);
         }

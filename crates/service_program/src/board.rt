@@ -53,6 +53,8 @@ pub struct Board {
     begun: Instant,
     pub life: Life,
     pub askings: Askings,
+    // Its three numbers change together: so they are a plain value under a lock, whose changes have contracts. What
+    // only rises is an atomic.
     pub backoff: Mutex<Backoff>,
     /// How many settles the worker has taken: as long as this grows, receivers are at work.
     pub settles: Count,

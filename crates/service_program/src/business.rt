@@ -64,6 +64,7 @@ pub trait Business<H: Handler> {
     ///
     /// # Errors
     /// Where an allocation failed: then nothing of the line is printed.
+    // A text of its own, which the library puts on the line: a business that appends to the line could spoil it.
     fn show_state(alloc: Global, state: &H::State) -> Result<String, AllocError>;
 }
 

@@ -58,6 +58,7 @@ impl Overdue {
     /// Where some were settled meanwhile the receivers are at work, and the first may just wait for its turn.
     fn found(&mut self, first: Option<LetterPlace>, settles: u64) -> bool {
         let is_same = first.is_some() && first == self.first;
+        // Without the count a partner that took more than 30 s for what waited got all of it twice.
         let is_overdue = is_same && settles == self.settles;
         if is_overdue {
             self.pause = self.pause.saturating_mul(2).min(LONGEST);

@@ -403,6 +403,8 @@ where
 {
     let stop = Stop::new();
     let alloc = site.host.alloc();
+    // These threads end and start again where a connection is to be opened, as `run_lines` takes connections at its
+    // start: four threads, some 0.2 ms. What was read stays with the other connection.
     let turn = BoardGate::new(alloc, site.board, &stop);
     let Conns { zero, one } = conns;
     let Slot {

@@ -97,6 +97,7 @@ impl Reach for Socket {
 }
 
 /// A socket to the first address of the host that accepts.
+// By the system's own runtime, no type parameter: what is sent to a thread may not depend on a parameter's `Net`.
 fn connect_first(host: &HostRuntime, broker: Broker<'_>) -> io::Result<net::TcpStream> {
     let mut last = io::Error::from(ErrorKind::AddrNotAvailable);
     let found = (broker.address, broker.port).to_socket_addrs(host)?;
