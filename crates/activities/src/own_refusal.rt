@@ -32,6 +32,7 @@ impl OwnRefusal {
 
 impl Display for OwnRefusal {
     fn fmt<W: Write>(&self, f: &mut Formatter<W>) -> fmt::Result {
+        // Without its word, which the handler has: contracts compare faults as values, and a borrowed text isn't one.
         write!(f, "{}: a refusal of the business's own", self.number)
     }
 }

@@ -77,6 +77,7 @@ impl Kind {
 fn octet_at(octets: &[u8], place: usize) -> u8
     ensures { result ≡ slice_index octets.now place }
 {
+    // No key has a NUL, so 0 sorts a key before every longer one that begins with it.
     octets.get(place).copied().unwrap_or(0)
 }
 
@@ -87,6 +88,8 @@ fn octet_at(octets: &[u8], place: usize) -> u8
 fn lead_of(kind: Kind, key: &str) -> u64
     ensures { result ≡ lead_of (record { kind = kind; key = key.now }) }
 {
+    // The first octet of a kind's word is enough: the three words begin with different ones, and sort by them.
+    // Big-endian, so that numbers sort as texts do.
     let key = key.as_bytes();
     u64::from_be_bytes([
         octet_at(kind.word().as_bytes(), 0),
@@ -132,6 +135,7 @@ impl Entity {
     pub fn read(alloc: Global, text: &str) -> Result<Entity, EntityFault>
         ensures { IsReading text.now result }
     {
+        // At the first slash: a key may have slashes of its own.
         let Some((word, key)) = text.split_once('/') else {
             return Err(EntityFault::BadKind);
         };
@@ -142,6 +146,7 @@ impl Entity {
             return Err(EntityFault::BadKey);
         }
         let lead = lead_of(kind, key);
+        // Last: a text that names nothing is reported as that, however little memory there is.
         let text = String::from_str(alloc, text)?;
         Ok(Entity { kind, lead, text })
     }
@@ -154,6 +159,7 @@ impl Entity {
         ensures { IfOk result (λ e. e ≡ record { kind = kind; key = key.now }) }
     {
         let key = key.as_str();
+        // No test: a `Key` was tested when it was made, so only memory can fail.
         let mut text = String::from_str(alloc, kind.prefix())?;
         text.push_str(key)?;
         Ok(Entity {
@@ -184,6 +190,7 @@ impl Entity {
         ensures key { result.now ≡ self.now.key }
         ensures entity { IsEntity self.now }
     {
+        // Cut out, and not kept beside the text: the text is what is sent, stored and compared.
         let start = self.kind.prefix().len();
         &self.text[start..]
     }
@@ -218,6 +225,7 @@ impl PartialEq for Entity {
 
     #[tactic(auto, unfolding(crate::specs::Order::same_entity))]
     fn eq(&self, other: &Entity) -> bool {
+        // Without the kinds, which the texts begin with. Different leads need no look at a text.
         self.lead == other.lead && self.text == other.text
     }
 }
@@ -254,6 +262,7 @@ impl Ord for Entity {
     ghost matches_eq = { same_entity-ties };
 
     fn cmp(&self, other: &Entity) -> Ordering {
+        // Where the leads differ they differ as the texts do, so only equal ones need the texts.
         match self.lead.cmp(&other.lead) {
             Ordering::Equal => self.text.cmp(&other.text),
             unequal => unequal,

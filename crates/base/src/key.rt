@@ -36,6 +36,7 @@ impl Key {
     pub fn read(alloc: Global, text: &str) -> Result<Key, EntityFault>
         ensures { IsKeyReading text.now result }
     {
+        // Tested before the copy, so that a text that is no key is reported as that without memory.
         if !is_key(text) {
             return Err(EntityFault::BadKey);
         }
@@ -65,5 +66,7 @@ impl Key {
 pub fn is_key(text: &str) -> bool
     ensures { result ≡ is_key text.now }
 {
+    // In octets and not in characters, as the limit of a header's line. No frame's header can hold a NUL, and the lead
+    // of an entity needs an octet that no key has.
     !text.is_empty() && text.len() <= MAX_KEY && !text.as_bytes().contains(&0)
 }

@@ -5,6 +5,7 @@
 pub const MAX_KEY: usize = 64;
 
 /// The greatest number of a letter, a journal position, a quantity or an amount: 2^40.
+// So far below 2^64 that no addition of such numbers wraps.
 pub const MAX_NUMBER: u64 = 1_099_511_627_776;
 
 /// Stock lines of an order: 1 to this many.
@@ -30,9 +31,11 @@ pub const MAX_BODY: usize = 1_048_576;
 pub const MAX_LENGTH_DIGITS: usize = 8;
 
 /// Octets, unescaped, of a value that the broker echoes: `receipt`, `id`, `transaction`.
+// An eighth of a line, so that the value fits a line however it is escaped.
 pub const MAX_ECHOED: usize = 128;
 
 /// Headers of a SEND that the broker hands on.
+// Of 32: a MESSAGE has four of the server's before them.
 pub const MAX_OWN_HEADERS: usize = 28;
 
 /// Messages of a destination that are ready or out: of use from 1 to 1,000,000.

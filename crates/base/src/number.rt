@@ -35,6 +35,7 @@ impl Number {
     pub fn new(value: u64) -> Option<Number>
         ensures { MatchOption result (¬ IsNumber value) (λ n. (n ≡ value) × IsNumber value) }
     {
+        // 0 is no number of a letter: as a mark it says that none was handled, sent or settled.
         if 1 <= value && value <= MAX_NUMBER {
             Some(Number { value })
         } else {

@@ -73,6 +73,7 @@ impl Ord for Pair {
     ghost matches_eq = { same_pair-ties };
 
     fn cmp(&self, other: &Pair) -> Ordering {
+        // The sender first, so that the pairs of one sender are neighbours in an ordered map.
         match self.from.cmp(&other.from) {
             Ordering::Equal => self.to.cmp(&other.to),
             unequal => unequal,

@@ -43,6 +43,7 @@ impl Mode {
     {
         match self {
             Mode::Client => number <= answered,
+            // In mode `auto` nothing is ever out, so no answer asks for its arm.
             Mode::Auto | Mode::Individual => number == answered,
         }
     }

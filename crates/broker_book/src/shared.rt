@@ -30,6 +30,7 @@ impl<T> Shared<T> {
     {
         match Rc::new(alloc, value) {
             Ok(value) => Ok(Shared { value }),
+            // With the value: a request that ran out of memory is kept by its session, and done later.
             Err(failed) => Err(failed),
         }
     }

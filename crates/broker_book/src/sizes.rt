@@ -47,6 +47,7 @@ impl Action {
         ensures { result ≡ action_octets self.now % 2 ^ 64 }
     {
         match self {
+            // As in a queue: the SEND holds its memory from now on, whether or not its COMMIT comes.
             Action::Put(sent) => ACTION_OVERHEAD.wrapping_add(sent.get().octets()),
             Action::Ack(_) | Action::Nack(_) => ACTION_OVERHEAD,
         }

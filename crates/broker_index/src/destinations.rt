@@ -138,6 +138,7 @@ impl Destinations {
             alloc,
             slab: Slab::new(alloc),
             keys: BTreeMap::new(alloc),
+            // No queue is there yet, so that any key would be a wrong hint.
             last: 0,
         }
     }
@@ -233,6 +234,7 @@ impl Destinations {
             name: shared,
             queue: StoredQueue::new(self.alloc),
         };
+        // A copy for the map alone: the other is shared with whoever notes the queue.
         let text = String::from_str(self.alloc, name.as_str())?;
         // Room in the slab before the map has the name: the map must not name a queue that isn't there.
         self.slab.reserve(1)?;
@@ -377,6 +379,7 @@ impl Destinations {
             (queue_at self.old name.now)) }
     {
         match find_queue(&self.slab, &self.keys, self.last, name) {
+            // The hint isn't set: after this the queue may be gone.
             Some(key) => close_at(&mut self.slab, &mut self.keys, key, name),
             None => {}
         }
@@ -407,6 +410,7 @@ impl Destinations {
         match find_queue(&self.slab, &self.keys, self.last, name) {
             Some(key) => {
                 self.last = key;
+                // Before the look whether the queue is idle: this may have been its last message.
                 self.slab[key].queue.remove_counted(number);
                 close_at(&mut self.slab, &mut self.keys, key, name);
             }

@@ -41,6 +41,7 @@ pub(crate) fn find_key<T: Keyed>(slab: &Slab<T>, number: u64, hint: usize) -> Op
 {
     match slab.get(hint) {
         Some(value) if value.key_number() == number => Some(hint),
+        // A key is given to another value once it is free, so the number decides.
         _ => search_key(slab, number),
     }
 }

@@ -99,6 +99,7 @@ impl Stored {
     {
         let before = self.unanswered();
         self.standing = standing;
+        // Wrapping: nothing here requires a bound on the messages, and the count is exact modulo 2^64.
         out.wrapping_add(self.unanswered()).wrapping_sub(before)
     }
 }
@@ -194,6 +195,7 @@ impl Messages {
         let octets = sent.get().octets();
         let stored = Stored {
             number,
+            // Shared and not copied: a SEND is in memory once, whether a queue, a transaction or a list has it.
             sent: sent.share()?,
             standing: Standing::Ready,
             octets,
@@ -225,6 +227,7 @@ impl Messages {
     pub fn remove(&mut self, number: u64, key: usize)
         ensures { self.new ≡ filter (λ k. not (k.number == number)) self.old }
     {
+        // Both are read first: without the message nobody knows what it was counted as.
         let fewer = octets_at(&self.slab, number, key);
         let answered = unanswered_at(&self.slab, number, key);
         take_value(&mut self.slab, number, key);

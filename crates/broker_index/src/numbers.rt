@@ -67,6 +67,7 @@ fn bounds(places: &VecDeque<KeyedPlace>, number: u64, highest: usize) -> (usize,
     let mut high = 1;
     while high < highest && places[high].number < number {
         low = high;
+        // Below the highest, which is a length: doubled it doesn't wrap.
         high *= 2;
     }
     (low, high.min(highest))
@@ -81,6 +82,7 @@ fn search(places: &VecDeque<KeyedPlace>, number: u64, highest: usize) -> usize
 {
     let (mut low, mut high) = bounds(places, number, highest);
     while low < high {
+        // By its form below `high`, whatever the length is: half of a sum would need a bound.
         let middle = low + (high - low) / 2;
         if places[middle].number < number {
             low = middle + 1;
@@ -146,6 +148,7 @@ impl Places {
         let Some(place) = self.places.get(index) else {
             return;
         };
+        // The first at the number or after it: another one, if this number isn't there.
         if place.number == number {
             let _ = self.places.remove(index);
             self.shrink();

@@ -16,6 +16,7 @@ use std::marker::Model;
 /// What a destination has: the messages that go to it, and the subscribers that listen on it.
 #[derive(Drop)]
 pub struct StoredQueue {
+    // Also of messages that are gone and wait to be taken out: `count` is without those.
     numbers: Places,
     count: usize,
     ready_from: u64,
@@ -45,6 +46,7 @@ impl StoredQueue {
         StoredQueue {
             numbers: Places::new(alloc),
             count: 0,
+            // 0 is before any message and any age: a hint that is too low is always right.
             ready_from: 0,
             subscribers: Places::new(alloc),
             taker_from: 0,

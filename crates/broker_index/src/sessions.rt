@@ -62,6 +62,7 @@ impl Sessions {
                 places.push(place)?;
                 Ok(())
             }
+            // Never so: the caller has found the session.
             None => Ok(()),
         }
     }
@@ -74,6 +75,7 @@ impl Sessions {
         ensures err { OnErr result (self.new ≡ self.old) }
     {
         let mut places = Vec::new(self.alloc);
+        // The place before the map has the list: if an allocation fails, no empty list is left in it.
         places.push(place)?;
         self.places.insert(session, places)?;
         Ok(())

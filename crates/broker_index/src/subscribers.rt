@@ -17,6 +17,7 @@ use std::marker::Model;
 pub struct StoredSubscriber {
     age: u64,
     subscription: Subscription,
+    // The truth, how many are unanswered; `entries` is where to look for them, and may have others.
     count: usize,
     entries: Vec<Entry>,
 }
@@ -143,6 +144,7 @@ impl Subscribers {
             count: 0,
             entries: Vec::new(self.alloc),
         };
+        // The age is used up only after this: a call that fails gives none away.
         let key = put_value(&mut self.slab, stored)?;
         self.next = age + 1;
         Ok(KeyedPlace { number: age, key })

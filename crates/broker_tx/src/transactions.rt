@@ -63,6 +63,7 @@ impl Open {
         ensures ok { OnOk result (self.new ≡ with_action action self.old) }
         ensures err { OnErr result (self.new ≡ self.old) }
     {
+        // Before the action moves into the list.
         let octets = action.octets();
         self.actions.push(action)?;
         // Counted once it's kept: where that fails the sum stays.
@@ -107,6 +108,7 @@ impl Transactions {
     pub fn octets(&self) -> u64
         ensures { result ≡ open_octets self.now % 2 ^ 64 }
     {
+        // A sum of 16 numbers at most: each transaction keeps its own, so no action is looked at.
         octets_in(&self.items)
     }
 
@@ -144,6 +146,7 @@ impl Transactions {
         if self.items.len() >= MAX_TRANSACTIONS {
             return Err(TransactionFault::TooMany);
         }
+        // The name is copied, since the transaction outlives the BEGIN that brought it.
         let open = Open {
             name: name.copy(alloc)?,
             actions: Vec::new(alloc),
@@ -221,6 +224,7 @@ impl Transactions {
     {
         match self.place(name) {
             Some(at) => keep_at(&mut self.items, at, action),
+            // Never so, since `add` has found the name. By the clause, which doesn't know that, nothing changes.
             None => Ok(()),
         }
     }
@@ -228,6 +232,7 @@ impl Transactions {
     fn end(&mut self, name: &Text) -> Result<(), TransactionFault>
         ensures { Exactly (end_of self.old name.now) self.old self.new result }
     {
+        // Asked before, since `retain` doesn't report whether anything went.
         if !self.has(name) {
             return Err(TransactionFault::NoTransaction);
         }

@@ -35,6 +35,7 @@ pub fn tell_words<W: Write, E: Write>(out: &mut W, err: &mut E, error: &Error) -
     ensures request { is_request (kind_of error.now) ≡ true → err.new ≡ err.old }
     ensures fault { is_request (kind_of error.now) ≡ false → out.new ≡ out.old }
 {
+    // Help that was asked for is output, and may be piped; a fault of usage must not get into that pipe.
     if is_request(error.kind()) {
         write!(out, "{error}")?;
         out.flush()?;
@@ -55,6 +56,7 @@ pub fn tell_bad_words<E: Write>(err: &mut E, usage: &str) -> io::Result<u8>
         × Appends (E.contents err.old) (E.contents err.new) (bad_words_text usage.now)) }
     ensures untold { OnErr result (AppendsPart (E.contents err.old) (E.contents err.new) (bad_words_text usage.now)) }
 {
+    // In `clap`'s words but not by `clap`: words that aren't UTF-8 can't be read, so it is never called.
     write_three(err, BAD_WORDS, usage.as_bytes(), TRY_HELP)?;
     err.flush()?;
     Ok(2)

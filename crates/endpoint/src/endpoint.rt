@@ -119,6 +119,8 @@ where
         if !self.keep.usable() {
             return Err(EndFault::Unusable);
         }
+        // Before the state is read: another service's entity has no row here, and would look like one that did
+        // nothing.
         if entity.kind() != H::kind() {
             return Err(EndFault::NotMine);
         }
@@ -144,6 +146,7 @@ where
         ensures finds { Finds K.seen self.old self.new }
         ensures matches { StillMatchesWithin K.seen self.old self.new W.ahead H.service }
     {
+        // Without a test of `usable`: only a reopening makes a failed store usable again.
         Ok(self.keep.reopen(alloc)?)
     }
 
@@ -219,6 +222,7 @@ where
         if !self.keep.usable() {
             return Err(EndFault::Unusable);
         }
+        // The sender, where letters are tested by their receiver: a settle goes to whoever sent the letters.
         if pair.from.kind() != H::kind() {
             return Err(EndFault::NotMine);
         }
@@ -357,6 +361,7 @@ where
     pub fn length(&self) -> Result<u64, EndFault>
         ensures { Counts K.seen self.now (λ t. length t.journal) result }
     {
+        // Tested as before a read: what a failed store says of its length may be wrong.
         if !self.keep.usable() {
             return Err(EndFault::Unusable);
         }

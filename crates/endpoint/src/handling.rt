@@ -30,6 +30,7 @@ where
 {
     match keep.entity(alloc, entity)? {
         Some(state) => Ok(state),
+        // A missing row loses nothing: a state that counts as none is the opening state.
         None => Ok(H::opening(alloc)?),
     }
 }
@@ -47,6 +48,7 @@ where
     requires { (K.seen keep.old).usable ≡ true }
     ensures { Writes K.seen keep.old keep.new (ArePlaced changes.items) (changed changes.items) (end_of result) }
 {
+    // Not `apply_steps`: no state is among these changes.
     Ok(keep.apply(alloc, changes)?)
 }
 
@@ -77,6 +79,7 @@ pub fn add_rows<H: Handler>(
     // The state right before its row of the journal: a store that writes states in parts looks for it there.
     let row = row_for::<H>(state);
     changes.push(Change::State(entity.copy(alloc)?, row))?;
+    // A copy for each of the two rows, since a change owns what it writes.
     let entity = entity.copy(alloc)?;
     changes.push(Change::Journal(position, JournalRow { entity, input }))?;
     Ok(())
@@ -138,6 +141,7 @@ where
     // Before the numbers of what it sends are read: a refusal costs one read.
     H::apply(alloc, &mut state, &input, &mut outs)?;
     number_outs::<H, K>(alloc, keep, entity, outs.as_slice(), &mut changes)?;
+    // The marks that the caller has put into `changes` go into this transaction too: none is written without its row.
     write::<H, K>(alloc, keep, position, entity, input, state, changes)?;
     Ok(Committed {
         pos: position.get(),

@@ -90,6 +90,7 @@ where
 {
     // The handled mark rises in the letter's own transaction: a crash leaves both or neither.
     let changes = resequencer::take_in(alloc, letter)?;
+    // Copied, since the letter is only lent and the journal keeps its sender.
     let from = letter.pair.from.copy(alloc)?;
     let input = Input::FromEntity(from, letter.number, letter.message);
     match handle::<H, K, W>(alloc, keep, &letter.pair.to, input, changes) {
@@ -154,10 +155,12 @@ where
 {
     let handled = read_handled(alloc, keep, &letter.pair)?;
     match W::rank_of(handled, letter) {
+        // With the mark, by which the duplicate is settled: the first settle may have been lost.
         Rank::Repeated => Ok(Ingested::Repeated(handled)),
         // Also where a held row has its number: that goes in the same transaction.
         Rank::Next => handle_letter::<H, K, W>(alloc, keep, letter),
         Rank::Early => hold_letter::<H, K, W>(alloc, keep, letter),
+        // No loss: the letter stays unsettled at its sender, and is resent.
         Rank::TooEarly => Err(EndFault::TooEarly),
     }
 }
@@ -199,6 +202,7 @@ where
     ensures { Works K.seen keep.old keep.new W.ahead H.service OfHeldLetter (λ _. ⊤) (DrainMay H.service pair.now)
         result }
 {
+    // Read here and not passed in: a mark that the caller has may be older than the store's.
     let handled = read_handled(alloc, keep, pair)?;
     match read_next(alloc, keep, pair, handled)? {
         Some(letter) => handle_held::<H, K, W>(alloc, keep, &letter),
@@ -276,6 +280,7 @@ where
         result }
 {
     let sent = read_sent(alloc, keep, pair)?;
+    // Before the mark rises: a mark above what was sent would settle letters that nobody has handled.
     if number > sent {
         return Err(EndFault::NotSent);
     }

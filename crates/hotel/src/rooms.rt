@@ -44,6 +44,7 @@ impl Handler for Rooms {
         match state {
             Room::Free => Ok(Room::Free),
             Room::Taken => Ok(Room::Taken),
+            // Only a promise has memory of its own: a copy of any other room can't fail.
             Room::Promised(order) => Ok(Room::Promised(order.copy(alloc)?)),
         }
     }

@@ -40,6 +40,7 @@ struct Hotel;
 impl Business<Rooms> for Hotel {
     fn read_command(alloc: Global, line: &str) -> Result<(Entity, RoomCommand), LineFault> {
         match line.split_once(' ') {
+            // A room is an entity of the kind `Stock`: that is how an order's letters find it.
             Some(("reserve", key)) => Ok((
                 read_key(alloc, Kind::Stock, key)?,
                 RoomCommand::Reserve,
@@ -48,6 +49,7 @@ impl Business<Rooms> for Hotel {
                 read_key(alloc, Kind::Stock, key)?,
                 RoomCommand::Release,
             )),
+            // Never `NotMine`: a hotel doesn't know the commands of other services.
             _ => Err(LineFault::Unreadable),
         }
     }
@@ -57,6 +59,7 @@ impl Business<Rooms> for Hotel {
             Room::Free => String::from_str(alloc, "free"),
             Room::Taken => String::from_str(alloc, "taken"),
             Room::Promised(order) => {
+                // With its escapes: a space in the order's key would look like the end of a word.
                 let order = show_entity(alloc, order)?;
                 format!(in alloc; "promised {order}")
             }

@@ -32,6 +32,7 @@ pub struct Arming {
 pub struct Faulty<K: Keep + Drop> {
     keep: K,
     armed: Option<Arming>,
+    // Beside the store inside, which an armed failure leaves usable.
     is_down: bool,
     failures: u64,
 }
@@ -66,6 +67,7 @@ impl<K: Keep + Drop> Faulty<K> {
     pub fn arm(&mut self, n: u64, leaves: Leaves)
         ensures { self.new ≡ record self.old { armed = Some (record { calls = n; leaves = leaves }) } }
     {
+        // At most one call is armed: a newer arming replaces this.
         self.armed = Some(Arming { calls: n, leaves });
     }
 
@@ -103,6 +105,7 @@ impl<K: Keep + Drop> Faulty<K> {
         } }
     {
         self.is_down = true;
+        // Saturating, as a count that wrapped would hide all failures.
         self.failures = self.failures.saturating_add(1);
         Err(KeepFault::Failed)
     }
@@ -134,6 +137,7 @@ impl<K: Keep + Drop> Keep for Faulty<K> {
         // Every read and every transaction counts, so that a test can have each of them fail.
         match self.strike() {
             None => self.keep.entity(alloc, entity),
+            // What the call would leave is for transactions alone: a failed read leaves the tables.
             Some(_) => self.fail(),
         }
     }
@@ -248,6 +252,7 @@ impl<K: Keep + Drop> Keep for Faulty<K> {
     {
         match self.strike() {
             None => self.keep.apply(alloc, changes),
+            // The store inside isn't even asked, so its tables stay.
             Some(Leaves::Old) => self.fail(),
             Some(Leaves::New) => {
                 // Made, and reported as failed: as where a disk fails after the commit was written.
@@ -272,6 +277,7 @@ impl<K: Keep + Drop> Keep for Faulty<K> {
             None => self.keep.apply_steps(alloc, changes),
             Some(Leaves::Old) => self.fail(),
             Some(Leaves::New) => {
+                // By the same call as without a fault: a store that writes parts of states has to be tried, too.
                 let _ = self.keep.apply_steps(alloc, changes);
                 self.fail()
             }
@@ -284,6 +290,7 @@ impl<K: Keep + Drop> Keep for Faulty<K> {
     {
         // Where the store inside can't be reopened it isn't usable itself, so that this needn't be known here.
         self.is_down = false;
+        // A reopening isn't counted: an armed call is one of those after it.
         self.keep.reopen(alloc)
     }
 

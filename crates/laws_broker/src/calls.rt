@@ -16,6 +16,7 @@ use std::alloc::{AllocError, Global};
 pub fn begin<const FULL: usize>(alloc: Global) -> Broker<FULL>
     ensures { Lives FULL empty [] result }
 {
+    // The beginning is no call: a life is what follows, here an empty list.
     Broker::new(alloc)
 }
 
@@ -26,6 +27,7 @@ pub fn begin<const FULL: usize>(alloc: Global) -> Broker<FULL>
 pub fn open<const FULL: usize>(broker: &mut Broker<FULL>) -> Result<SessionId, BrokerFault>
     ensures { DoesCall FULL broker.old (Opened result) broker.new }
 {
+    // A call that is refused is counted too: the laws hold of lives that ran out of memory.
     broker.open()
 }
 
@@ -41,6 +43,8 @@ pub fn feed<const FULL: usize>(
     ensures { (frames : List Decided)
         × DoesCall FULL broker.old (FedTo session (record { piece = piece.now; frames = frames }) result) broker.new }
 {
+    // The answer is a count, while the laws need the frames: the contract says that there are such, and no caller
+    // sees them.
     broker.feed(session, piece)
 }
 
@@ -63,6 +67,7 @@ pub fn taken<const FULL: usize>(broker: &mut Broker<FULL>, session: SessionId, c
     ensures { DoesCall FULL broker.old (TakenFrom session (take count (out_in (session_of session broker.old))))
         broker.new }
 {
+    // Which octets these are follows from the broker before the call, so the list of a life has them exactly.
     broker.taken(session, count);
 }
 
@@ -77,6 +82,7 @@ pub fn drop_session<const FULL: usize>(broker: &mut Broker<FULL>, session: Sessi
 pub fn take_fresh<const FULL: usize>(broker: &mut Broker<FULL>) -> Option<SessionId>
     ensures { DoesCall FULL broker.old (Named result) broker.new }
 {
+    // A hint for servers, and a call all the same, since it changes the broker.
     broker.take_fresh()
 }
 
@@ -84,5 +90,6 @@ pub fn take_fresh<const FULL: usize>(broker: &mut Broker<FULL>) -> Option<Sessio
 pub fn take_accepted<const FULL: usize>(broker: &mut Broker<FULL>) -> Vec<Accepted>
     ensures { DoesCall FULL broker.old (Told result.items) broker.new }
 {
+    // Each call reports what was accepted since the one before: put together, the answers are all SENDs, each once.
     broker.take_accepted()
 }

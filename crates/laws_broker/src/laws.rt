@@ -3,6 +3,7 @@
 //! Each function does nothing when it is called: its contract is the law.
 
 ghost use Rattle.laws_broker.specs.Deeds.{AcceptedWereSent, MessagesWereSent};
+// From a frame's step over a call to a life: what is shown of runs of the book then holds of any broker that lived.
 ghost use Rattle.laws_broker.specs.Runs.{AcceptedAreToldOnce, BrokersAreOrderly, CallsAreRuns, LivesAreRuns};
 ghost use Rattle.laws_broker.specs.Runs.{MessagesWereAccepted};
 ghost use Rattle.laws_broker.specs.Runs.{NoLifeLosesAny, NoneOvertakes, StepsAreRuns};

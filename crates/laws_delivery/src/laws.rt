@@ -2,8 +2,12 @@
 
 ghost use Rattle.std.specs.Prelude.{◌≢◌, Bool};
 ghost use Rattle.base.specs.declared.pair.Pair.{Pair};
+// `IsRunAmong` has the pairs as a parameter: where another service shares a kind with one of the two, the law can
+// still be asked about pairs that it never touches.
 ghost use Rattle.laws_delivery.specs.Good.{AreGood, AreMatching, AreClean, IsRunAmong};
 ghost use Rattle.laws_delivery.specs.Good.{AllLegal, AllDelivered, TakenAreHandled};
+// `Elsewhere` is met in two ways: by a kind of one's own, which contracts show, or by a journal without rows of the
+// pairs.
 ghost use Rattle.laws_delivery.specs.Two.{Two, Elsewhere, StepOfThird, StepOfStranger, DidNothing};
 
 use activities::Handler;

@@ -38,6 +38,7 @@ where
     ensures used { TellsOfSide K.seen L.seen left.old left.new right.old right.new delivery.now result }
 {
     match delivery {
+        // Each side reads all that the other ever sent, and adds to its own post alone: nothing is forged.
         Delivery::Left(event) => act::<H, K>(
             alloc,
             left,
@@ -83,6 +84,7 @@ where
         (contents (K.seen left.new) (L.seen right.new) network.new)) }
     ensures err { OnErr result ((left.new ≡ left.old) × (right.new ≡ right.old) × (network.new ≡ network.old)) }
 {
+    // Room for all answers before anything is done: what a side did is never left without its answer.
     let mut outcomes = Vec::with_capacity(alloc, deliveries.len())?;
     for delivery in deliveries {
         let outcome = deliver::<H, K, G, L>(alloc, left, right, network, delivery);

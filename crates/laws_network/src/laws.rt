@@ -4,6 +4,7 @@ ghost use Rattle.std.specs.Prelude.{◌≡◌, [], length};
 ghost use Rattle.base.specs.declared.pair.Pair.{Pair};
 ghost use Rattle.activities.specs.Journal.{sent_of, handled_of};
 ghost use Rattle.keep.specs.Tables.{empty};
+// Counting is enough: on fair sides what was handled is a prefix of what was sent, so equal lengths mean all of it.
 ghost use Rattle.laws_network.specs.Fair.{IsFair, HandledAll};
 ghost use Rattle.laws_network.specs.Sides.{Sides};
 

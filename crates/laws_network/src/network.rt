@@ -11,6 +11,7 @@ use std::marker::Model;
 /// All that one side ever sent, in order: contracts see the list.
 #[derive(Debug, Drop)]
 pub struct Post {
+    // Never shortened: what was sent once may arrive at any later time.
     envelopes: Vec<Envelope>,
 }
 
@@ -62,6 +63,7 @@ impl Post {
         ensures err { OnErr result (self.new ≡ self.old) }
     {
         let count = letters.len();
+        // All are wrapped before one is added, so that a failed allocation sends none.
         let mut envelopes: Vec<Envelope> = letters
             .into_iter()
             .map(Envelope::Letter)

@@ -37,9 +37,11 @@ where
         (CommitMay H.service (record { entity = entity.now; input = FromSeat seat command.now }) result) }
     ensures used { IsUse K.seen own.old own.new result }
 {
+    // Before the copy, so that an unusable store is never reported as out of memory.
     if !own.usable() {
         return Err(EndFault::Unusable);
     }
+    // A copy: the event stays in its list, which says afterwards what was done.
     let command = H::copy_command(alloc, command)?;
     own.commit(alloc, seat, entity, command)
 }
@@ -61,6 +63,7 @@ where
         SideSteps K.seen own.old own.new H.service (Commit seat entity.now command.now) result arriving sent sent }
     ensures used { TellsOfUse K.seen own.old own.new result }
 {
+    // An event may name any seat, and `commit` takes only those that there are: so the law holds of every list.
     if seat >= SEATS {
         return Outcome::Missing;
     }
@@ -84,6 +87,7 @@ where
         SideSteps K.seen own.old own.new H.service (Send limit) (Sent result) arriving post.old post.new }
     ensures used { IsUse K.seen own.old own.new result }
 {
+    // From the first on, whatever was sent before: so the network has duplicates to bring.
     let letters = own.unsettled(alloc, &None, limit)?;
     Ok(post.send_letters(alloc, letters)?)
 }
@@ -105,6 +109,7 @@ where
         SideSteps K.seen own.old own.new H.service (Tell pair.now) (Told result) arriving post.old post.new }
     ensures used { IsUse K.seen own.old own.new result }
 {
+    // The mark of now. Older settles stay in the post, and may arrive after this one.
     let handled = own.handled(alloc, pair)?;
     post.send(Envelope::Settle(pair.copy(alloc)?, handled))?;
     Ok(handled)
@@ -127,6 +132,7 @@ where
         SideSteps K.seen own.old own.new H.service (Take index) result arriving.now sent sent }
     ensures used { TellsOfUse K.seen own.old own.new result }
 {
+    // By any index, also one that was taken before: so the network loses, repeats and reorders.
     match arriving.get(index) {
         Some(Envelope::Letter(letter)) => Outcome::Taken(own.ingest(alloc, letter)),
         Some(Envelope::Settle(pair, number)) => Outcome::Settled(own.settle(alloc, pair, *number)),

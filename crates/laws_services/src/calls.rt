@@ -20,6 +20,8 @@ ghost use Rattle.endpoint.specs.declared.fault.EndFault.{EndFault};
 ghost use Rattle.group_commit.specs.Group.{Groups};
 ghost use Rattle.group_commit.specs.declared.grouped.Grouped.{Grouped};
 ghost use Rattle.group_commit.specs.declared.grouped.Grouped.TheVariants as grouped;
+// `Does` is what a theorem asks of a call. A new call of an endpoint changes no theorem: once its contract names its
+// deed, a law like these makes it a step.
 ghost use Rattle.laws_services.specs.Steps.{IsFounded, Does, TakesLetter, MayWrite};
 
 use activities::Handler;

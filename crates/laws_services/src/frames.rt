@@ -15,6 +15,8 @@ ghost use Rattle.reception.specs.declared.fault.ReceptionFault.{ReceptionFault};
 ghost use Rattle.reception.specs.declared.taken.Drained.{Drained};
 ghost use Rattle.reception.specs.declared.taken.Taken.{Taken};
 ghost use Rattle.reception.specs.declared.taken.Taken.TheVariants.{Handled, Repeated};
+// `CarriesWritten` is all that is asked of a broker. Nothing says that a frame comes, or that it comes once: so loss,
+// repetition and another order need no case of their own.
 ghost use Rattle.laws_services.specs.Frames.{CarriesWritten, IsOfLetter};
 ghost use Rattle.laws_services.specs.Steps.{IsFounded, Does, TakesLetter, MayWrite};
 

@@ -4,6 +4,8 @@ ghost use Rattle.base.specs.declared.pair.Pair.{Pair};
 ghost use Rattle.laws_journals.specs.Envelopes.{SettledAreHandled};
 ghost use Rattle.laws_journals.specs.Journals.{HandlesPrefixes};
 ghost use Rattle.laws_services.specs.Good.{AreGoodServices, IsRun, AllTaken, HoldsNoNext, AllHandled};
+// `Services` are stores, and not one content of each: a failed call leaves either of two, and a reader would have to
+// show that the choices of three services fit.
 ghost use Rattle.laws_services.specs.Services.{Services, sight_of, DidNothing};
 ghost use Rattle.laws_stores.specs.Good.{journals_of, settled_in, AllAgree};
 ghost use Rattle.laws_stores.specs.Sight.{AllTables, MayLeave, AreClean, AreMatching};

@@ -6,6 +6,8 @@ ghost use Rattle.keep.specs.Tables.{Tables, empty};
 ghost use Rattle.laws_journals.specs.Agreement.{states_in, AreSound};
 ghost use Rattle.laws_journals.specs.Envelopes.{SettledAreHandled};
 ghost use Rattle.laws_journals.specs.Journals.{AreLawful};
+// A life is no step: of two programs that run for a day, each reads what the other writes meanwhile, so neither comes
+// first. So what was written has to be true by the writer's journal at its end, which appended rows keep.
 ghost use Rattle.laws_services.specs.Lives.{Post, both_lives, HasLived, Lives, HaveLived};
 ghost use Rattle.laws_stores.specs.Good.{journals_of, settled_in};
 ghost use Rattle.laws_stores.specs.Sight.{AllTables};

@@ -12,6 +12,7 @@ ghost use Rattle.keep.specs.Listing.{AreFirst};
 ghost use Rattle.endpoint.specs.Calls.{Stays};
 ghost use Rattle.endpoint.specs.Faults.{end_of};
 ghost use Rattle.endpoint.specs.declared.fault.EndFault.{EndFault};
+// A read changes nothing, but what it showed may be written afterwards: hence `Does` and `MayWrite`.
 ghost use Rattle.laws_services.specs.Steps.{IsFounded, Does, MayWrite};
 
 use activities::Handler;

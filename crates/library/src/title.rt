@@ -57,6 +57,7 @@ impl Title {
     pub fn on_shelf(&self) -> u64
         ensures { result ≡ self.now.here - self.now.aside }
     {
+        // Saturating: that no more is set aside than is here is a law of reactions, and not known of any title.
         self.here.saturating_sub(self.aside)
     }
 

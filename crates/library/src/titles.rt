@@ -42,10 +42,12 @@ impl Handler for Titles {
         Ok(Title {
             here: 0,
             aside: 0,
+            // An empty list allocates nothing, so this opening never fails.
             askers: Vec::new(alloc),
         })
     }
 
+    // No state counts as none, so there is nothing to prove of a title without a row (`none_is_opening`).
     fn is_none(_state: &Title) -> bool {
         false
     }

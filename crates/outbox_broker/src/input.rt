@@ -62,6 +62,7 @@ impl Waits {
 fn has_ended<I: Read>(input: &mut I, octets: &mut [u8]) -> bool {
     match input.read(octets) {
         Ok(count) => count == 0,
+        // A read that a signal broke off says nothing of the input.
         Err(error) => error.kind() != ErrorKind::Interrupted,
     }
 }
@@ -73,9 +74,11 @@ pub fn wait_for_end<R: Net + Wait, I: Read>(rt: &R, alloc: Global, input: &mut I
     let mut waits = Waits::new(rt, alloc).ok();
     for _ in rt.forever() {
         let is_ready = match &mut waits {
+            // A wait that fails counts as ready: the read then shows what there is.
             Some(waits) => waits.is_ready().unwrap_or(true),
             None => true,
         };
+        // The stop first: the read may block, and nobody would end it.
         if stop.is_asked() || is_ready && has_ended(input, &mut octets) {
             return;
         }

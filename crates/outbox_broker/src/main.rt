@@ -44,6 +44,7 @@ fn tell_unwritten(rt: &impl Eprint, error: io::Error) -> io::Result<u8> {
 
 /// Listens on an address: where port 0 was asked for, on one that the system picks, which is told beside.
 fn listen_on<R: Net>(rt: &R, address: SocketAddr) -> io::Result<(TcpListener, u16)> {
+    // Bound before the port is printed: whoever reads the line can connect at once.
     let listener = TcpListener::bind(rt, address)?;
     let port = listener.local_addr()?.port();
     Ok((listener, port))
@@ -53,6 +54,7 @@ fn listen_on<R: Net>(rt: &R, address: SocketAddr) -> io::Result<(TcpListener, u1
 fn tell_port<R: Print>(rt: &R, port: u16) -> io::Result<()> {
     let mut out = io::writer(rt);
     writeln!(out, "listening {port}")?;
+    // A script waits for this line, and nothing else is printed that would push it out of a buffer.
     out.flush()
 }
 
@@ -112,6 +114,7 @@ fn begin(rt: &HostRuntime) -> io::Result<Result<(TcpListener, Plan), u8>> {
     let words: Vec<String> = env::args(rt)?.collect(rt.alloc())?;
     match read_settings(rt.alloc(), words.as_slice()) {
         Ok(settings) => open(rt, settings),
+        // Not by `clap`'s text and status 2: the words may be right.
         Err(error) if error.kind() == WordFault::OutOfMemory => {
             Err(io::Error::from(ErrorKind::OutOfMemory))
         }
@@ -156,6 +159,7 @@ fn main(rt: HostRuntime) -> io::Result<ExitCode> {
         return Ok(ExitCode::from(status));
     }
     // Where serving ends by itself the program does so too, whatever its input does.
+    // If no second thread can be made, `join` waits for the input first, and nobody is served before that ends.
     let (status, ()) = thread::join(
         &rt,
         || {

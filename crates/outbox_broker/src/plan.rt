@@ -48,6 +48,7 @@ fn level_of(word: &str) -> Option<LevelFilter>
         "warn" => Some(LevelFilter::Warn),
         "info" => Some(LevelFilter::Info),
         "debug" => Some(LevelFilter::Debug),
+        // `trace` too: no line has that level.
         _ => None,
     }
 }
@@ -57,6 +58,7 @@ fn level_of(word: &str) -> Option<LevelFilter>
 fn address_of(text: &str, port: u16) -> Option<SocketAddr>
     ensures { MatchOption result ((ip : IpAddr) → ¬ (IsIpText text.now ip)) (IsHostAndPort text.now port) }
 {
+    // An address and no name: what is opened is what was written, whatever a resolver says.
     match IpAddr::from_str(text) {
         Ok(ip) => Some(SocketAddr::new(ip, port)),
         Err(_) => None,

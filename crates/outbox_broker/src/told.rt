@@ -53,6 +53,7 @@ fn tell_unopened<R: Log>(rt: &R, peer: SocketAddr, error: io::Error) {
 /// Whether the system refuses a descriptor.
 fn is_of_descriptors(error: io::Error) -> bool {
     match error.raw_os_error() {
+        // ENFILE and EMFILE: these two have no `ErrorKind`.
         Some(number) => number == NONE_FOR_ALL || number == NONE_FOR_THIS,
         None => false,
     }
@@ -61,6 +62,7 @@ fn is_of_descriptors(error: io::Error) -> bool {
 /// Tells why connections wait to be taken in.
 fn tell_unaccepted<R: Log>(rt: &R, error: io::Error) {
     if is_of_descriptors(error) {
+        // An error, as an operator can act: clients aren't refused, but wait in the backlog.
         error!(rt; target: TARGET, "no descriptor is left: connections wait for one: {error}");
     } else {
         error!(rt; target: TARGET, "no connection can be taken in: they wait: {error}");

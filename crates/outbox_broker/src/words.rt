@@ -164,6 +164,7 @@ fn add_options<'a>(alloc: Global, command: Command<'a>) -> Result<Command<'a>, A
 fn unless_zero(number: u64) -> Option<u64>
     ensures { result ≡ unless_zero number }
 {
+    // 0 turns an option off. As a limit it would close every silent connection, or read no sender, from the start.
     if number == 0 { None } else { Some(number) }
 }
 
@@ -198,9 +199,12 @@ fn octets_of(matches: &ArgMatches<'_>, name: &str) -> Option<u64>
 fn settings_of<'a>(matches: &ArgMatches<'a>) -> Settings<'a>
     ensures { AreSettings (rows_of (found_of matches.now)) result }
 {
+    // `clap` refuses words without a port and puts defaults in, so no value after an `unwrap_or` is ever taken.
     let port = number_of(matches, "port").unwrap_or(0);
+    // By default 127.0.0.1, since there is neither a login nor TLS.
     let address = matches.get_str("listen").unwrap_or(ADDRESS);
     let until_input_ends = matches.get_flag("until-input-ends");
+    // By default not `warn`: hostile clients could fill a pipe that nobody reads, and then nobody is served.
     let log = matches.get_str("log").unwrap_or(LEVEL);
     let figures = seconds_of(matches, "figures");
     let idle = seconds_of(matches, "idle");

@@ -15,6 +15,7 @@ use std::process::ExitCode;
 /// Three services and a broker make the events.
 struct Services;
 
+// A program proves again how each library type that it owns is dropped, so this one names types and owns none.
 impl Runs for Services {
     fn run_over<S: Stores, R: Read, W: Write, E: Write>(
         alloc: Global,

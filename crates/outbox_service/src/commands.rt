@@ -59,6 +59,7 @@ fn add_seat(alloc: Global, line: &str) -> Result<String, AllocError> {
         Some((verb, rest)) if matches!(verb, "place" | "cancel" | "receive" | "limit") => {
             format!(in alloc; "{verb} 0 {rest}")
         }
+        // Any other line is read as it is: another event of schedules is refused by `fault_of`.
         _ => String::from_str(alloc, line),
     }
 }
@@ -67,10 +68,12 @@ fn add_seat(alloc: Global, line: &str) -> Result<String, AllocError> {
 fn read_event(alloc: Global, line: &str) -> Result<Event, LineFault> {
     let line = add_seat(alloc, line)?;
     match read_schedule(alloc, line.as_bytes()) {
+        // One line has one event at most, so the last is the only one.
         Ok(mut events) => match events.pop() {
             Some(event) => Ok(event),
             None => Err(LineFault::Unreadable),
         },
+        // The number in the fault is that of a line of a schedule: here it is always 1.
         Err(ScheduleFault::BadEvent(_)) => Err(LineFault::Unreadable),
         Err(ScheduleFault::Memory) => Err(LineFault::Memory),
     }
@@ -105,6 +108,7 @@ fn show_words<S: Shown>(alloc: Global, state: &S::State) -> Result<String, Alloc
     let mut octets = Vec::new(alloc);
     S::push_state(&mut octets, state)?;
     match octets.as_slice() {
+        // Without that space: `service_program` puts one after the entity.
         [_, words @ ..] => text_of(alloc, words),
         [] => Ok(String::new(alloc)),
     }

@@ -14,6 +14,7 @@ use std::time::Clock;
 
 /// Warns if a file has no rows: its letters are numbered from 1 on, which partners that know others take for duplicates.
 fn tell_new<K: Keep, R: Log>(rt: &R, path: &str, keep: &K) {
+    // Usable first: only of a usable store may the length be asked.
     if keep.usable() && keep.length() == 0 {
         warn!(rt; "{path} has no rows: if this isn't a new service, it's the wrong file");
     }

@@ -87,6 +87,7 @@ where
     R: Threads + Wait + Clock + Log + Sync,
 {
     match path {
+        // `Unknown` stands for what the file holds, of which nothing is known before it is opened.
         Some(path) => run_filed::<H, Trade, Unknown, R>(rt, host, path, Unknown, broker),
         None => {
             let keep = PlainKeep::new(host.alloc());
@@ -107,13 +108,16 @@ where
         migrate,
     } = settings;
     match file {
+        // Before the service opens it: an opening refuses a file of version 1.
         Some(path) if migrate => take_over(host, service, path)?,
+        // A warning and no fault: tables in memory have no version that could be wrong.
         None if migrate => warn!(rt; "--migrate does nothing without --file"),
         _ => (),
     }
     match service {
         "warehouse" => run_at::<Stocks, R>(rt, host, file, broker),
         "billing" => run_at::<Accounts, R>(rt, host, file, broker),
+        // Purchasing: `clap` takes no other word after `--service`.
         _ => run_at::<Orders, R>(rt, host, file, broker),
     }
 }

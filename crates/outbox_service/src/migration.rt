@@ -23,8 +23,10 @@ fn tell(host: &HostRuntime, done: Result<Migrated, KeepFault>, line: &str) -> Re
             line.as_bytes(),
         ) {
             Ok(()) => Ok(()),
+            // The file is of version 2 by now, though no line says so: the next start just opens it.
             Err(_) => Err(RunFault::Device),
         },
+        // A file of version 2 stays as it is, and no line is printed: `--migrate` may stay in a script.
         Ok(_) => Ok(()),
         Err(fault) => Err(RunFault::of_file(fault)),
     }

@@ -68,6 +68,7 @@ use text::{push_octets, read_number, unescape};
 use trade::{AccountCommand, Items, OrderCommand, StockCommand};
 use warehouse::Stocks;
 
+// An entity is equal to the one that its text names.
 pub fn an_entity_is_named_again(alloc: Global) -> Result<bool, EntityFault> {
     let key = Key::read(alloc, "o1")?;
     let order = Entity::new(alloc, Kind::Order, &key)?;
@@ -75,6 +76,7 @@ pub fn an_entity_is_named_again(alloc: Global) -> Result<bool, EntityFault> {
     Ok(again == order)
 }
 
+// What a line can't hold is escaped and read back exactly. A number has one text, so `07` is none.
 pub fn a_line_is_read_again(alloc: Global) -> Result<bool, AllocError> {
     let mut line = String::new(alloc);
     push_octets(&mut line, b"7\n")?;
@@ -83,6 +85,7 @@ pub fn a_line_is_read_again(alloc: Global) -> Result<bool, AllocError> {
     Ok(is_same && line.as_str() == "7\\n" && read_number("07").is_none())
 }
 
+// A wire passes on only what it is told to carry: 2 octets of 5.
 pub fn what_was_put_is_taken(alloc: Global) -> Result<Vec<u8>, LinkFault> {
     let mut wire = MemoryWire::new(alloc);
     let _gone = pump_out(&mut wire.near, b"hello");
@@ -92,6 +95,7 @@ pub fn what_was_put_is_taken(alloc: Global) -> Result<Vec<u8>, LinkFault> {
     Ok(taken)
 }
 
+// Words and octets have different escapes: `\s` is a space in a word alone.
 pub fn printed_octets_are_read(alloc: Global) -> Result<bool, LineFault> {
     let octets = read_octets(alloc, "two\\swords\\x00")?;
     let mut text = String::new(alloc);
@@ -99,6 +103,7 @@ pub fn printed_octets_are_read(alloc: Global) -> Result<bool, LineFault> {
     Ok(text.as_str() == "two words\\x00")
 }
 
+// Pieces may be cut anywhere, even within a header: the frame is the one that was written.
 pub fn a_frame_is_read_from_pieces(alloc: Global) -> Result<bool, FrameFault> {
     let mut decoder: Decoder<65_536> = Decoder::new(alloc);
     decoder.feed(b"SEND\ndestination:/queue/bil")?;
@@ -107,6 +112,7 @@ pub fn a_frame_is_read_from_pieces(alloc: Global) -> Result<bool, FrameFault> {
     Ok(found.is_some_and(|frame| frame.get("destination") == Some("/queue/billing")))
 }
 
+// A refusal is a number, here 21, and comes with the frame as it was.
 pub fn a_frame_before_connect_is_refused(alloc: Global) -> Option<u8> {
     let mut session = ServerSession::new();
     let frame = Frame::new(alloc, Command::Disconnect);
@@ -114,10 +120,12 @@ pub fn a_frame_before_connect_is_refused(alloc: Global) -> Option<u8> {
     Some(refused.fault.number())
 }
 
+// In mode `client` an ACK answers earlier deliveries too, in `client-individual` its own alone.
 pub fn answers_reach_back_in_mode_client() -> bool {
     Mode::Client.reaches(2, 1) && !Mode::Individual.reaches(2, 1)
 }
 
+// A queue is kept only while it has messages or subscribers: names that clients make up leave nothing behind.
 pub fn an_idle_destination_is_closed(alloc: Global) -> Result<bool, QueueFault> {
     let name = Text::new(String::from_str(alloc, "/queue/a")?);
     let mut destinations = Destinations::new(alloc);
@@ -126,6 +134,7 @@ pub fn an_idle_destination_is_closed(alloc: Global) -> Result<bool, QueueFault> 
     Ok(destinations.get(&name).is_none())
 }
 
+// Each SEND that was accepted is listed until somebody asks: laws about loss count by that list.
 pub fn a_message_is_accepted(alloc: Global) -> Result<usize, QueueFault> {
     let mut queues: Queues<MAX_QUEUED> = Queues::new(alloc);
     let sent = Sent {
@@ -137,6 +146,7 @@ pub fn a_message_is_accepted(alloc: Global) -> Result<usize, QueueFault> {
     Ok(queues.take_accepted().len())
 }
 
+// Actions are kept, and not done: what does them is the COMMIT.
 pub fn a_transaction_keeps_its_actions(alloc: Global) -> Result<usize, TransactionFault> {
     let mut transactions = Transactions::new(alloc);
     let name = Text::new(String::from_str(alloc, "t")?);
@@ -146,6 +156,7 @@ pub fn a_transaction_keeps_its_actions(alloc: Global) -> Result<usize, Transacti
     Ok(kept.map_or(0, |actions| actions.len()))
 }
 
+// A broker needs no socket to be tried: octets go in and come out, cut anywhere.
 pub fn a_broker_answers_connect(alloc: Global) -> Result<bool, BrokerFault> {
     let mut broker: Broker<MAX_QUEUED> = Broker::new(alloc);
     let session = broker.open()?;
@@ -161,6 +172,7 @@ pub fn a_server_is_asked_to_end() -> bool {
     stop.is_asked()
 }
 
+// A law is used by a call: the called function does nothing, and its contract proves this one.
 pub fn what_wants_an_ack_stays_until_it_comes()
     ensures { NoLifeLosesAny }
 {
@@ -173,6 +185,7 @@ pub fn what_a_client_reads_was_sent()
     each_message_was_sent();
 }
 
+// A repeated RECEIPT finds no tag, so it can't report a SEND twice.
 pub fn a_receipt_is_closed_once(alloc: Global) -> Result<bool, ReceiptFault> {
     let mut receipts = Receipts::new(alloc);
     let number = receipts.open('a')?;
@@ -181,6 +194,7 @@ pub fn a_receipt_is_closed_once(alloc: Global) -> Result<bool, ReceiptFault> {
     Ok(tag == Some('a') && again.is_none())
 }
 
+// A client's call only appends octets; whoever has the socket takes them from there.
 pub fn a_client_asks_to_connect(alloc: Global) -> Result<bool, ClientFault> {
     let mut client: ClientSession<u64> = ClientSession::new(alloc);
     client.connect()?;
@@ -198,6 +212,7 @@ pub fn words_that_are_no_text_are_told(alloc: Global) -> io::Result<u8> {
     tell_bad_words(&mut err, "hi NAME")
 }
 
+// A frame that can't be handled yet is put back, and no later one overtakes it.
 pub fn a_frame_that_was_put_back_is_the_next(alloc: Global) -> Result<bool, FrameFault> {
     let mut channel = Channel::new(alloc);
     channel.feed(b"RECEIPT\nreceipt-id:1\n\n\0RECEIPT\nreceipt-id:2\n\n\0")?;
@@ -211,6 +226,8 @@ pub fn a_frame_that_was_put_back_is_the_next(alloc: Global) -> Result<bool, Fram
     Ok(again.get("receipt-id") == Some("1"))
 }
 
+// A read is never below what its own seat has raised. That it is the greatest of all is known once all seats are
+// closed.
 pub fn a_mark_is_the_greatest_number_raised(alloc: Global) -> Result<bool, AllocError> {
     let (marks, mut seats) = Marks::open(alloc, 1, 2)?;
     marks.raise(&mut seats[0], 0, 5);
@@ -220,11 +237,13 @@ pub fn a_mark_is_the_greatest_number_raised(alloc: Global) -> Result<bool, Alloc
     Ok(read >= 3 && closed.mark(0) == 5)
 }
 
+// A settle has one number, for all letters of the pair up to it.
 pub fn a_settle_is_sent(alloc: Global, pair: Pair) -> Result<bool, EnvelopeFault> {
     let frame = to_send(alloc, &Envelope::Settle(pair, 7))?;
     Ok(frame.get("number") == Some("7"))
 }
 
+// Generic over the handler: this is so of any business, whoever wrote it.
 pub fn first_state_of<H: Handler>(
     alloc: Global,
     command: H::Command,
@@ -257,6 +276,7 @@ pub fn an_order_is_refused(alloc: Global) -> Result<(), HandlerFault> {
     Orders::apply(alloc, &mut order, &input, &mut outs)
 }
 
+// A handler needs no store and no broker: a state and the letters it sends are values, easily tried alone.
 pub fn so_much_is_on_hand(alloc: Global, quantity: u64) -> Result<u64, HandlerFault> {
     let mut stock = Stocks::opening(alloc)?;
     let mut outs = Outs::new(alloc);
@@ -281,6 +301,7 @@ pub fn a_free_room_is_promised(alloc: Global, order: Entity) -> Result<bool, Han
     Ok(matches!(room, Room::Promised(_)))
 }
 
+// What is set aside is still here, and no longer on the shelf: no second reader can be promised it.
 pub fn one_copy_is_set_aside(
     alloc: Global,
     copies: Number,
@@ -308,6 +329,7 @@ pub fn lawful_journals_stay_lawful()
     a_deed_keeps_the_laws();
 }
 
+// A law and a call together: the call's clauses are the law's premises, so nothing more has to be shown.
 pub fn what_a_broker_brought_is_a_step<H, K>(
     alloc: Global,
     own: &mut Endpoint<H, K>,
@@ -324,6 +346,7 @@ where
     take_frame(alloc, own, client, frame)
 }
 
+// The partner is a value of the clause alone: one service's code shows what holds of two.
 pub fn letters_stay_delivered<H, K, G, L>(
     alloc: Global,
     own: &mut Endpoint<H, K>,
@@ -362,6 +385,7 @@ where
     closed_lives_are_lives::<N, L, H, K>();
 }
 
+// Every read requires a usable store, so a caller tests that first.
 pub fn a_mark_is_read<K: Keep>(keep: &mut K, alloc: Global, pair: &Pair) -> Result<u64, KeepFault> {
     if !keep.usable() {
         return Err(KeepFault::Failed);
@@ -375,6 +399,7 @@ pub fn tables_hold_nothing_at_first(alloc: Global) -> Result<bool, KeepFault> {
     Ok(letters.is_empty())
 }
 
+// States are kept beside their rows: to forget one costs a read later, and loses nothing.
 pub fn what_was_remembered_is_known(alloc: Global, order: &Entity) -> Result<bool, AllocError> {
     let mut states = LastStates::new(alloc)?;
     states.remember(alloc, order, 7_u64);
@@ -383,11 +408,13 @@ pub fn what_was_remembered_is_known(alloc: Global, order: &Entity) -> Result<boo
     Ok(known == Some(7) && was_known && states.peek(order).is_none())
 }
 
+// The outbox writes nothing: it makes changes, which an endpoint puts into one transaction with others.
 pub fn a_mark_is_one_change(alloc: Global, pair: &Pair) -> Result<usize, AllocError> {
     let changes: Vec<Change<u64, u64>> = settle(alloc, pair, Number::FIRST)?;
     Ok(changes.len())
 }
 
+// A duplicate is known by its number, without a look at any table.
 pub fn a_letter_comes_again(letter: &Letter) -> bool {
     let handled = letter.number.get();
     classify::<64>(letter.pair.to.kind(), handled, letter) == Class::Mine(Rank::Repeated)
@@ -399,6 +426,7 @@ pub fn nothing_is_held_at_first(alloc: Global, pair: &Pair) -> Result<bool, Keep
     Ok(next.is_none())
 }
 
+// One call is one transaction: the state, the letters and the row of the journal, or none of them.
 pub fn a_command_is_taken_in(
     alloc: Global,
     order: &Entity,
@@ -409,6 +437,7 @@ pub fn a_command_is_taken_in(
     Ok(committed.pos)
 }
 
+// A list of indices into what was sent is a network that repeats and reorders.
 pub fn what_comes_early_waits<H, K, G, L>(
     alloc: Global,
     left: &mut Endpoint<H, K>,
@@ -444,6 +473,7 @@ pub fn services_without_orders_agree(
     )
 }
 
+// Before CONNECTED there is nothing to do for a relay, which is no fault.
 pub fn nothing_goes_out_before_the_broker_answers(alloc: Global) -> Result<usize, RelayFault> {
     let mut purchasing: Endpoint<Orders, PlainKeep<Orders>> = Endpoint::new(PlainKeep::new(alloc));
     let mut client = ClientSession::new(alloc);
@@ -451,6 +481,7 @@ pub fn nothing_goes_out_before_the_broker_answers(alloc: Global) -> Result<usize
     relay.fill(&mut client, &mut purchasing, 64)
 }
 
+// SUBSCRIBE follows from CONNECTED: no caller has to ask for it.
 pub fn a_connected_client_subscribes(alloc: Global) -> Result<bool, ReceptionFault> {
     let mut purchasing: Endpoint<Orders, PlainKeep<Orders>> = Endpoint::new(PlainKeep::new(alloc));
     let mut client = ClientSession::new(alloc);

@@ -28,6 +28,7 @@ where
     ensures { IsBeginning O.seen S.seen A.seen (AreLeftBy (shown O.seen S.seen A.seen keeps)) result }
 {
     let (orders, stocks, accounts) = keeps;
+    // All three, since any `fail` line may name one. A store that isn't armed passes its calls on.
     let purchasing = Endpoint::new(Faulty::new(orders));
     let warehouse = Endpoint::new(Faulty::new(stocks));
     let billing = Endpoint::new(Faulty::new(accounts));
@@ -72,11 +73,14 @@ where
     let mut world = make_world(alloc, keeps);
     for event in events.as_slice() {
         let outcome = world.step(event);
+        // Written before the next event and not kept, so that no list of outcomes has to fit in memory.
         match write_outcome(out, &outcome) {
             Ok(()) => {}
+            // No event after it: what that did would be in the tables and in no output.
             Err(_) => return Err(RunFault::Device),
         }
     }
+    // What waits in a buffer isn't written yet, and may still fail.
     match out.flush() {
         Ok(()) => Ok(()),
         Err(_) => Err(RunFault::Device),

@@ -28,6 +28,7 @@ pub fn run_text<S: Stores, W: Write>(
     ensures { IsRunOf (HasRun S.Orders.seen S.Stocks.seen S.Accounts.seen S.found) S.fails text.now
         (W.contents out.old) (W.contents out.new) result }
 {
+    // Before the stores: a faulty line leaves no file opened, made or changed.
     let events = read_schedule(alloc, text)?;
     let keeps = stores.open(alloc)?;
     run_events(alloc, keeps, events, out)
@@ -43,6 +44,7 @@ fn read_and_run<S: Stores, R: Read, W: Write>(
     ensures { IsRunFrom (HasRun S.Orders.seen S.Stocks.seen S.Accounts.seen S.found) S.fails (R.remaining input.old)
         (W.contents out.old) (W.contents out.new) result }
 {
+    // All of it before a line is looked at: if the reader fails amid a schedule, nothing was run.
     let text = read_all(alloc, input)?;
     run_text(alloc, stores, text.as_slice(), out)
 }
@@ -88,5 +90,6 @@ pub fn run_over<S: Stores, R: Read, W: Write, E: Write>(
         (record { out = W.contents out.old; err = E.contents err.old })
         (record { out = W.contents out.new; err = E.contents err.new }) result }
 {
+    // If standard error fails too, the status is all that is left to report by.
     run_input(alloc, stores, input, out, err).unwrap_or(1)
 }

@@ -17,6 +17,7 @@ use std::marker::Model;
 #[derive(Drop)]
 pub struct Receipts<T: Drop> {
     last: u64,
+    // A queue would keep the places of all numbers that are closed after one that stays open.
     tags: BTreeMap<u64, T>,
 }
 
@@ -63,12 +64,14 @@ impl<T: Drop> Receipts<T> {
     pub fn open(&mut self, tag: T) -> Result<u64, ReceiptFault>
         ensures { Opens tag self.old self.new result }
     {
+        // Tested before anything allocates, so that no failed allocation hides a fault that stays.
         if self.last == u64::MAX {
             return Err(ReceiptFault::NumbersUsed);
         }
         let number = self.last + 1;
         match put(&mut self.tags, number, tag) {
             Ok(()) => {
+                // Only now: a failed allocation uses no number.
                 self.last = number;
                 Ok(number)
             }
@@ -84,6 +87,7 @@ impl<T: Drop> Receipts<T> {
         ensures ended { open_under number self.new ≡ None }
         ensures none { IfNone result (self.new ≡ self.old) }
     {
+        // Removing allocates nothing, so a RECEIPT can always be processed; a second one of the number finds nothing.
         self.tags.remove(&number)
     }
 }
@@ -94,6 +98,7 @@ fn put<T: Drop>(tags: &mut BTreeMap<u64, T>, number: u64, tag: T) -> Result<(), 
     ensures err { OnErr result (tags.new.entries ≡ tags.old.entries) }
 {
     match tags.insert(number, tag) {
+        // No tag was replaced: the number is given here for the first time.
         Ok(_) => Ok(()),
         Err(_) => Err(AllocError),
     }

@@ -109,6 +109,8 @@ fn write_letter(
             Ok(Taken::Handled(position))
         }
         Ok(Ingested::Repeated(handled)) => {
+            // Settled again, as the settle of the first time may be lost, and up to the mark, which covers later
+            // letters.
             let mark = settled_again(letter.number, handled);
             settle(alloc, client, message, &letter.pair, mark)?;
             Ok(Taken::Repeated(mark.get()))

@@ -56,6 +56,7 @@ where
     ensures used { TellsOfDraining K.seen endpoint.old endpoint.new result }
     ensures wrote { DrainWrites client.old.client client.new.client result }
 {
+    // Which letter is next has to be known before it is handled: its settle is made first.
     let handled = match endpoint.handled(alloc, &pair) {
         Ok(handled) => handled,
         Err(fault) => return Err(ReceptionFault::End(fault)),
@@ -123,6 +124,7 @@ where
     ensures comes { ComesBy K.seen endpoint.old endpoint.new H.service (DrainsMay H.service result) }
     ensures used { TellsOfDraining K.seen endpoint.old endpoint.new result }
 {
+    // A session that was never connected: `drain` writes no settle on it.
     let mut client = ClientSession::new(alloc);
     drain::<H, K>(alloc, endpoint, &mut client)
 }

@@ -49,6 +49,7 @@ impl ReceptionFault {
             ReceptionFault::Client(ClientFault::Memory) => true,
             ReceptionFault::Client(ClientFault::NumbersUsed) => true,
             ReceptionFault::Envelope(EnvelopeFault::Memory) => true,
+            // All others were answered, or can't be: to take the frame once more would bring nothing else.
             _ => false,
         }
     }

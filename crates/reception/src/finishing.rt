@@ -29,6 +29,7 @@ fn write_transaction(client: &mut ClientSession<u64>, text: &[u8])
     ensures { (frames : List Content) → IsTextOf frames text.now
         → Writes frames (counting client.old.client) client.new.client }
 {
+    // Neither of the two can fail: the number and the room were found before.
     client.count_transaction();
     write(client, text);
 }

@@ -91,6 +91,7 @@ where
     ensures answers { Answers H.service.kind frame client.old.client client.new.client (taken_or result) }
     ensures waits { IfErr result (λ untaken. untaken.frame ≡ waiting_after untaken.fault frame) }
 {
+    // The replies come first: once the store has changed, no failed allocation may keep its answer back.
     match prepare(alloc, client, H::kind(), frame)? {
         Prepared::Done(taken) => Ok(taken),
         Prepared::Letter(prepared) => {
@@ -101,6 +102,7 @@ where
             let answer = settle::<H, K>(alloc, endpoint, &prepared);
             match prepared.finish(client, answer) {
                 Ok(taken) => Ok(taken),
+                // All replies to a settle were made before, so no fault here leaves its frame waiting.
                 Err(fault) => Err(Untaken { fault, frame: None }),
             }
         }

@@ -107,6 +107,7 @@ fn unread(
             Ok(()) => ReceptionFault::Envelope(fault),
             Err(fault) => ReceptionFault::Client(fault),
         },
+        // Not answered: whether it is an envelope isn't known yet.
         EnvelopeFault::Memory => ReceptionFault::Envelope(fault),
     }
 }
@@ -206,6 +207,7 @@ pub fn prepare(
         // The CONNECTED that a client accepts was taken above.
         Ok(ClientEvent::Connected) => unreachable!(),
         Ok(ClientEvent::Receipt(number, _)) => Ok(Prepared::Done(Taken::Receipt(number))),
+        // Taken and not refused: the session ends, and the text says what the broker didn't accept.
         Ok(ClientEvent::Error(text)) => Ok(Prepared::Done(Taken::Error(text))),
         Ok(ClientEvent::Message(message)) => prepare_message(alloc, client, message),
         Err(fault) => Err(Untaken {

@@ -94,6 +94,7 @@ impl LetterReplies {
             return Err(ReceptionFault::Client(ClientFault::NumbersUsed));
         }
         let answers = Acknowledgements::make(alloc, client, message)?;
+        // The test above keeps this sum from wrapping.
         let transaction = client.transactions() + 1;
         let settling = settling_text(alloc, message, transaction, &letter.pair, letter.number)?;
         client.room(settling.len())?;

@@ -33,6 +33,7 @@ where
         warehouse.old warehouse.new billing.old billing.new }
 {
     match partner.kind() {
+        // No order is a partner of an order, but entities of all kinds have one type.
         Kind::Order => Ok(None),
         Kind::Stock => match phase_at_stock(alloc, warehouse, partner, order) {
             Ok(phase) => Ok(phase),
@@ -60,9 +61,11 @@ where
         ≡ all_fit s a order.now placed.now.status placed.now.partners) result
         warehouse.old warehouse.new billing.old billing.new }
 {
+    // No early end: how many reads an order costs doesn't depend on what its partners have.
     let mut agree = true;
     for index in 0..placed.partner_count() {
         let Some(partner) = placed.partner(index) else {
+            // The prover shows that this isn't reached, since `index` is below the count.
             unreachable!()
         };
         let phase = phase_at(alloc, warehouse, billing, partner.entity(), order)?;
@@ -91,6 +94,7 @@ where
 {
     match order_row(alloc, purchasing, order) {
         Ok(Some(Some(placed))) => lines_agree(alloc, warehouse, billing, order, &placed),
+        // An order that wasn't placed has asked nobody.
         Ok(_) => Ok(true),
         Err(fault) => Err(AuditFault::Purchasing(fault)),
     }
@@ -111,6 +115,7 @@ where
     ensures { Looks KO.seen KS.seen KA.seen (λ o s a agrees. agrees ≡ row_agrees o s a row.now) result
         purchasing.old purchasing.new warehouse.old warehouse.new billing.old billing.new }
 {
+    // A read promises rows and not their kind: a file may be found to hold anything.
     if row.entity.kind() != Kind::Order {
         return Ok(true);
     }
@@ -135,6 +140,7 @@ where
 {
     for row in rows {
         if !row_agrees(alloc, purchasing, warehouse, billing, row)? {
+            // An early end: no later read can change the answer, and one that failed would hide it.
             return Ok(false);
         }
     }
@@ -163,6 +169,7 @@ where
     ensures { Looks KO.seen KS.seen KA.seen (λ o s a agree. agree ≡ partners_agree o s a) result
         purchasing.old purchasing.new warehouse.old warehouse.new billing.old billing.new }
 {
+    // By purchasing's orders and not by lines: else all partners could have lost theirs of a confirmed order.
     match purchasing.journal(alloc, 1, usize::MAX) {
         Ok(rows) => rows_agree(alloc, purchasing, warehouse, billing, rows.as_slice()),
         Err(fault) => Err(AuditFault::Purchasing(fault)),

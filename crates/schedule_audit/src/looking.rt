@@ -55,6 +55,7 @@ where
 {
     match row_at::<Stocks, K>(alloc, warehouse, stock)? {
         Some(row) => Ok(phase_among(row.lines(), order)),
+        // A stock without a row is as at first, and has no line.
         None => Ok(None),
     }
 }
@@ -98,7 +99,9 @@ pub(crate) fn fits(status: Status, phase: Option<LinePhase>) -> bool
     ensures { result ≡ fits status phase }
 {
     match status {
+        // Held too: the confirm may be on its way.
         Status::Confirmed => matches!(phase, Some(LinePhase::Held | LinePhase::Done)),
+        // Held is right here too: an open order waits for the others' answers, and a cancel may be on its way.
         Status::Open | Status::Cancelled => !matches!(phase, Some(LinePhase::Done)),
     }
 }

@@ -50,6 +50,7 @@ impl StoresFault {
         ensures { result.now ≡ line_of self }
     {
         match self.fault() {
+            // Numbers of stores: `fault 2` is `Memory` here and `Device` of a stream, so the name belongs to the line.
             KeepFault::Failed => "\nfault 1 Failed\n",
             KeepFault::Memory => "\nfault 2 Memory\n",
             KeepFault::WrongFile => "\nfault 3 WrongFile\n",

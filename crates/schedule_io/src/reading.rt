@@ -17,8 +17,10 @@ pub fn read_all<R: Read>(alloc: Global, input: &mut R) -> Result<Vec<u8>, RunFau
         (λ fault. (fault ≡ RunFault.Memory) ⊎ (fault ≡ RunFault.Device)) }
 {
     let mut text = Vec::new(alloc);
+    // What was read before a fault is dropped: half of a schedule isn't run.
     match input.read_to_end(&mut text) {
         Ok(_) => Ok(text),
+        // The text's own allocation fails as an error of the reader, so this is asked before the device is blamed.
         Err(error) if error.kind() == ErrorKind::OutOfMemory => Err(RunFault::Memory),
         Err(_) => Err(RunFault::Device),
     }

@@ -17,6 +17,7 @@ fn write_run_fault<E: Write>(err: &mut E, fault: RunFault) -> io::Result<()>
     ensures ok { OnOk result (Appends (E.contents err.old) (E.contents err.new) (fault_line fault)) }
     ensures err { OnErr result (AppendsPart (E.contents err.old) (E.contents err.new) (fault_line fault)) }
 {
+    // Constant texts and digits on the stack: the fault may be that memory ran out.
     match fault {
         RunFault::BadEvent(number) => write_numbered(err, b"line ", number, b": bad event\n"),
         RunFault::Memory => write_octets(err, b"fault 81 Memory\n"),
@@ -40,6 +41,7 @@ pub fn tell_fault<E: Write>(err: &mut E, fault: RunFault) -> io::Result<u8>
     ensures untold { OnErr result (AppendsPart (E.contents err.old) (E.contents err.new) (fault_line fault)) }
 {
     write_run_fault(err, fault)?;
+    // Before the status is returned: the program ends next, and a script reads the last line.
     err.flush()?;
     Ok(1)
 }

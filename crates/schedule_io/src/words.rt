@@ -119,6 +119,7 @@ fn make_command<'a>(alloc: Global, keeps: &'a [&'a str]) -> Result<Command<'a>, 
         .long("migrate")
         .action(ArgAction::SetTrue)
         .help("With `--dir`: takes over files of version 1 before they are opened");
+    // `VERSION` is a word of the source, since crates have no versions.
     let command = Command::new(alloc, "outbox-schedule")
         .version(VERSION)
         .about(
@@ -144,6 +145,7 @@ fn chosen_by<'a>(matches: &ArgMatches<'a>) -> StoreChoice<'a>
             },
             None => StoreChoice::Sqlite,
         },
+        // The default, as `clap` refuses all other words. It ignores `--dir`, so that one word turns files on and off.
         _ => StoreChoice::Plain,
     }
 }
@@ -180,6 +182,7 @@ pub fn tell_bad_words<E: Write>(err: &mut E) -> io::Result<u8>
 fn status_of(answer: io::Result<u8>) -> u8
     ensures { MatchResult answer (λ status. result ≡ status) (λ _. result ≡ 1) }
 {
+    // The text is lost, the failure isn't: 1 is also the status if a stream failed in a run.
     answer.unwrap_or(1)
 }
 
@@ -201,6 +204,7 @@ pub fn ask<'a, T: AsStr, W: Write, E: Write>(
         Ok(choice) => return Ok(choice),
         Err(error) => error,
     };
+    // No fault of the words: status 2 would blame whoever called the program.
     if error.kind() == ErrorKind::OutOfMemory {
         return Err(status_of(tell_fault(err, RunFault::Memory)));
     }

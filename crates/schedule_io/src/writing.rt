@@ -27,6 +27,7 @@ pub(crate) fn write_numbered<W: Write>(
     ensures err { OnErr result (AppendsPart (W.contents out.old) (W.contents out.new)
         (before.now ++ decimal number ++ after.now)) }
 {
+    // On the stack: an outcome is written before the next event runs, and must not be lost to an allocation.
     let mut digits = Buffer::new();
     write_three(out, before, digits.format(number).as_bytes(), after)
 }
@@ -36,6 +37,7 @@ fn write_word<W: Write>(out: &mut W, word: &str) -> io::Result<()>
     ensures ok { OnOk result (Appends (W.contents out.old) (W.contents out.new) (escaped word.now)) }
     ensures err { OnErr result (AppendsPart (W.contents out.old) (W.contents out.new) (escaped word.now)) }
 {
+    // Octet by octet, since a spelled word would have to be allocated.
     for octet in word.as_bytes() {
         write_octets(out, spelled(octet))?;
     }
@@ -76,6 +78,7 @@ fn write_told<W: Write>(out: &mut W, told: Pieces<'_>) -> io::Result<()>
     ensures ok { OnOk result (Appends (W.contents out.old) (W.contents out.new) (told_lines told.entry)) }
     ensures err { OnErr result (AppendsPart (W.contents out.old) (W.contents out.new) (told_lines told.entry)) }
 {
+    // By `streams` and not by `write_all`, after whose faults nothing is known of what went out.
     match told {
         Pieces::Number(words, number) => write_numbered(out, words.as_bytes(), number, b"\n"),
         Pieces::Text(words, text) => write_three(out, words.as_bytes(), text.as_bytes(), b"\n"),

@@ -22,6 +22,7 @@ fn same_header(one: &Header, other: &Header) -> bool
 fn same_headers(one: &[Header], other: &[Header]) -> bool
     ensures { result ≡ same_headers one.now other.now }
 {
+    // Else a list would equal a longer one that begins with it, and a shorter `other` would be indexed past its end.
     if one.len() != other.len() {
         return false;
     }
@@ -37,6 +38,7 @@ fn same_headers(one: &[Header], other: &[Header]) -> bool
 fn same(one: &Sent, other: &Sent) -> bool
     ensures { result ≡ same_sent one.now other.now }
 {
+    // The body last, since it may have 1 MiB.
     one.destination.same(&other.destination)
         && same_headers(one.headers.as_slice(), other.headers.as_slice())
         && one.body.as_slice() == other.body.as_slice()
@@ -46,6 +48,7 @@ fn same(one: &Sent, other: &Sent) -> bool
 fn again(accepted: &[Accepted], sent: &Sent) -> Option<u64>
     ensures { result ≡ again_of sent.now accepted.now }
 {
+    // Of several it couldn't be said which one is the repeat.
     if accepted.len() != 1 {
         return None;
     }
@@ -61,10 +64,12 @@ fn again(accepted: &[Accepted], sent: &Sent) -> Option<u64>
 pub(crate) fn find(lists: &[Vec<Accepted>], place: u64) -> Option<&Accepted>
     ensures { option_copied result ≡ at_place place (flat_map (λ list. list.items) lists.now) }
 {
+    // The call takes any number, though the places of a schedule begin at 1.
     if place == 0 {
         return None;
     }
     let mut index = place - 1;
+    // Counted over all lists as if they were one: to join them would take memory.
     for list in lists {
         let len = list.len() as u64;
         if index < len {
@@ -85,6 +90,7 @@ pub(crate) fn answer_of(
     requires { AreTexts sent.now texts.now.asked.items texts.now.full.items texts.now.used.items }
     ensures { TellsRepeat sent.now accepted.now out.now result }
 {
+    // The list is the truth, and is asked first: an accepted SEND stays so if its session then ran out of memory.
     match again(accepted, sent) {
         Some(number) => return Ok(Some(number)),
         None => {}
@@ -95,5 +101,6 @@ pub(crate) fn answer_of(
     if out == texts.used.as_slice() {
         return Err(RepeatFault::TooMany);
     }
+    // Neither was written, so memory ran out before the session could be answered.
     Err(RepeatFault::Memory)
 }

@@ -43,6 +43,7 @@ impl Connection {
         ensures sessions { IfOk result (λ c. KeepsOthers c.session mail.old.broker mail.new.broker) }
     {
         let mut channel = Channel::new(alloc);
+        // CONNECT first: if it can't be written there is no session that would have to be dropped.
         if let Err(fault) = channel.client.connect() {
             return Err(OpenFault::Client(fault));
         }
@@ -66,11 +67,13 @@ impl Connection {
     {
         let count = count_of(most, self.channel.out());
         let (piece, _) = self.channel.out().split_at(count);
+        // Fed also if the piece is empty: frames that ran out of memory wait in their session for its next feed.
         match mail.feed(self.session, piece) {
             Ok(_) => {
                 self.channel.taken(count);
                 Ok(count as u64)
             }
+            // The broker has the octets. If they stayed here too, the next carry would bring them twice.
             Err(BrokerFault::Memory { took: true }) => {
                 self.channel.taken(count);
                 Err(BrokerFault::Memory { took: true })
@@ -94,6 +97,7 @@ impl Connection {
         let (piece, _) = mail.out(self.session).split_at(count);
         match self.channel.feed(piece) {
             Ok(()) => {
+                // Dropped only now that the decoder has its copy: a failed allocation loses no octet.
                 mail.taken(self.session, count);
                 Ok(count as u64)
             }
@@ -113,6 +117,7 @@ impl Connection {
         ensures gone { has_session self.session mail.new.broker ≡ false }
     {
         mail.drop_session(self.session);
+        // A broker deals nothing as it drops a session: what was out to it would wait for a feed of another one.
         mail.dispatch()
     }
 }

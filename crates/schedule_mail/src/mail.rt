@@ -21,6 +21,7 @@ use std::marker::Model;
 pub struct Mail {
     alloc: Global,
     broker: Broker<MAX_QUEUED>,
+    // Lists as the brokers had them: to take one over needs one place, and copies no entry.
     earlier: Vec<Vec<Accepted>>,
 }
 
@@ -76,6 +77,7 @@ impl Mail {
         ensures ok { OnOk result (self.new ≡ restarted self.old) }
         ensures err { OnErr result (self.new ≡ self.old) }
     {
+        // Before the broker goes: with its list the SENDs would be lost, and `repeat` would count without them.
         self.collect()?;
         self.broker = Broker::new(self.alloc);
         Ok(())
@@ -86,6 +88,7 @@ impl Mail {
         ensures ok { OnOk result (self.new ≡ collected self.old) }
         ensures err { OnErr result (self.new ≡ self.old) }
     {
+        // Room first: a list that was taken from the broker and found no place would be lost.
         self.earlier.reserve(1)?;
         let accepted = self.broker.take_accepted();
         self.earlier.push_reserved(accepted);

@@ -29,6 +29,7 @@ impl Mail {
         ensures all { all_accepted self.new ≡ all_accepted self.old }
         ensures sessions { KeepsSessions self.old.broker self.new.broker }
     {
+        // So places count all SENDs, and the broker's own list is empty: what is in it later came of this repeat.
         self.collect()?;
         match self.sent_at(place)? {
             Some(sent) => self.send_again(sent.get()),
@@ -41,6 +42,7 @@ impl Mail {
         ensures { IfOk result (λ sent. sent ≡ sent_at place self.now.earlier) }
     {
         match find(self.earlier(), place) {
+            // Shared, since the list can't stay borrowed while the mail is changed.
             Some(accepted) => Ok(Some(accepted.sent.share()?)),
             None => Ok(None),
         }
@@ -51,6 +53,7 @@ impl Mail {
     fn send_again(&mut self, sent: &Sent) -> Result<Option<u64>, RepeatFault>
         ensures { SendsAgain sent.now self.old self.new result }
     {
+        // All that allocates on this side comes before there is a session, so a failure has changed nothing.
         let texts = Texts::new(self.alloc(), sent)?;
         match self.open_session() {
             Ok(session) => self.feed_again(session, sent, &texts),
@@ -69,9 +72,13 @@ impl Mail {
         requires { AreTexts sent.now texts.now.asked.items texts.now.full.items texts.now.used.items }
         ensures { FedAgain sent.now session self.old self.new result }
     {
+        // The answer isn't looked at: dealing may run out of memory after the SEND was accepted. The list shows that.
         let _ = self.feed(session, &texts.asked);
+        // Out of the list: if repeats counted, they would shift the places of all later SENDs.
         let accepted = self.take_accepted();
+        // Before the session is dropped, and its octets with it.
         let answer = answer_of(&accepted, sent, self.out(session), texts);
+        // Nothing is dealt after it: a session without subscriptions has nothing out to it.
         self.drop_session(session);
         answer
     }

@@ -24,6 +24,7 @@ fn asked(alloc: Global, sent: &Sent) -> Result<Vec<u8>, AllocError>
 {
     let mut out = Vec::new(alloc);
     let connect = connect_frame(alloc)?;
+    // A frame that was made can be spelled, so encoding fails for memory alone.
     if encode(&connect, &mut out).is_err() {
         return Err(AllocError);
     }
@@ -51,6 +52,7 @@ fn told(alloc: Global, number: u8, name: &str) -> Result<Vec<u8>, AllocError>
         Ok(()) => {}
         Err(_) => return Err(AllocError),
     }
+    // Without `receipt-id`: what is kept of a SEND has no `receipt`, so its repeat asks for none.
     match write_error(alloc, number, name, None, &mut out) {
         Ok(()) => Ok(out),
         Err(_) => Err(AllocError),
@@ -62,6 +64,7 @@ impl Texts {
     pub(crate) fn new(alloc: Global, sent: &Sent) -> Result<Texts, AllocError>
         ensures { IfOk result (λ texts. AreTexts sent.now texts.asked.items texts.full.items texts.used.items) }
     {
+        // `full` and `used` are whole outputs of a session: they are compared with its octets, and nothing is decoded.
         Ok(Texts {
             asked: asked(alloc, sent)?,
             full: told(alloc, 32, "QueueFull")?,

@@ -57,6 +57,7 @@ impl<O: Start, S: Start, A: Start> FileStores<O, S, A> {
         ensures stocks { result.2.1 ≡ self.stocks }
         ensures accounts { result.2.2 ≡ self.accounts }
     {
+        // Taken apart here: a type with a `Drop` of its own can't be matched by parts outside of its `impl`.
         let FileStores {
             rt,
             folder,

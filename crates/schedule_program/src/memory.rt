@@ -33,6 +33,7 @@ fn make_tables<H: Filed>(alloc: Global) -> Result<SqliteKeep<H, MemStore>, KeepF
 {
     match SqliteKeep::memory(alloc) {
         Ok(keep) => {
+            // A call that does nothing: its clause is the law from which this function's clause follows.
             is_sound(&keep);
             Ok(keep)
         }
@@ -67,6 +68,7 @@ impl Stores for SqliteStores {
         ),
         StoresFault,
     > {
+        // No `?`: a fault of a store doesn't know whose it is.
         let orders = match make_tables(alloc) {
             Ok(keep) => keep,
             Err(fault) => return Err(StoresFault::Purchasing(fault)),

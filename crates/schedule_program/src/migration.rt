@@ -27,6 +27,7 @@ fn migrate_file<H: Filed, P: Progress>(
 ) -> Result<Migrated, KeepFault>
     ensures { IfOk result (λ m. IsVersions m) }
 {
+    // To join a path allocates, and fails for nothing else.
     let Ok(path) = format!(in rt.alloc(); "{folder}/{name}") else {
         return Err(KeepFault::Memory);
     };
@@ -42,6 +43,7 @@ fn tell_migrated<W: Write>(out: &mut W, line: &str, migrated: Migrated) -> Resul
     if migrated.from != 1 {
         return Ok(());
     }
+    // The file is migrated by now. If this line can't be written, a second run won't print it either.
     match write_octets(out, line.as_bytes()) {
         Ok(()) => Ok(()),
         Err(_) => Err(RunFault::Device),
@@ -62,6 +64,8 @@ pub fn migrate_files<W: Write, P: Progress>(
 ) -> Result<(), RunFault>
     ensures { IsTakenOverWith (W.contents out.old) (W.contents out.new) result }
 {
+    // A transaction for each file, as they are three databases. After a fault the folder may have both versions, and a
+    // second run migrates the rest.
     match migrate_file::<Orders, P>(rt, folder, "purchasing.db", progress) {
         Ok(migrated) => tell_migrated(out, "migrated purchasing 1 2\n", migrated)?,
         Err(fault) => return Err(RunFault::Unopened(StoresFault::Purchasing(fault))),

@@ -34,6 +34,7 @@ fn run_in_files<X: Runs>(rt: HostRuntime, folder: &str) -> io::Result<u8> {
     let mut input = BufReader::new(rt.alloc(), rt.reader())?;
     let mut out = BufWriter::new(rt.alloc(), io::writer(&rt))?;
     let mut err = rt.stderr();
+    // `Unknown` represents what a file holds: nobody knows that before it is opened.
     match FileStores::new(rt, folder, (Unknown, Unknown, Unknown)) {
         Ok(stores) => Ok(X::run_over_files(rt.alloc(), stores, &mut input, &mut out, &mut err)),
         Err(_) => tell_fault(&mut err, RunFault::Memory),
@@ -93,6 +94,7 @@ fn run<X: Runs>(rt: HostRuntime) -> io::Result<u8> {
 /// Where standard error failed while a fault was told, or the words couldn't be read.
 pub fn run_program<X: Runs>(rt: HostRuntime) -> io::Result<ExitCode> {
     let status = match run::<X>(rt) {
+        // The words and the streams' buffers allocate before a run begins: reported as in a run, by `fault 81`.
         Err(error) if error.kind() == ErrorKind::OutOfMemory => {
             tell_fault(&mut rt.stderr(), RunFault::Memory)?
         }

@@ -54,6 +54,7 @@ where
     ensures comes { Goes K.seen site.old site.new H.service (SiteMay H.service (channels_of site.old) (asked_of event)
         result) }
 {
+    // Commands are no such events: their type is each service's own, and this function is for all three.
     match event {
         ServiceEvent::Open(number) => site.open(alloc, mail, number),
         ServiceEvent::Cut(number) => site.cut(mail, number),

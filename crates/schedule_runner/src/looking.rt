@@ -67,6 +67,7 @@ where
         (end_of result) }
     ensures stays { Stays K.seen endpoint.old endpoint.new }
 {
+    // All in one read, which is what `fail` counts. A relay reads pages, since it may stop before the last.
     endpoint.unsettled(alloc, &None, usize::MAX)
 }
 
@@ -97,6 +98,7 @@ where
         (end_of result) }
     ensures stays { Stays K.seen endpoint.old endpoint.new }
 {
+    // From 1 on: rows come without their positions, and those that are printed are counted from 1.
     let rows = endpoint.journal(alloc, 1, usize::MAX)?;
     Ok(show_journal::<H>(alloc, rows.as_slice())?)
 }
@@ -174,6 +176,7 @@ where
         site.new mail.new }
     ensures store { StoreStays K.seen site.old site.new }
 {
+    // Two steps: the read borrows the endpoint alone, and a failure cuts connections, which takes the whole site.
     let answer = row_line(alloc, &mut site.endpoint, entity);
     told(site, mail, answer)
 }

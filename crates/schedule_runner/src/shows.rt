@@ -29,6 +29,7 @@ fn show_pair(alloc: Global, pair: &Pair, sent: u64, settled: u64, handled: u64) 
 {
     match show_marks(alloc, pair, sent, settled, handled) {
         Ok(lines) => Outcome::Shown(lines),
+        // 64 as of the endpoint: out of memory in the read or in the printing, a line is refused alike.
         Err(_) => Outcome::Refused(64),
     }
 }
@@ -138,6 +139,7 @@ where
         ensures { Passes KO.seen KS.seen KA.seen (ShowsHandled KO.seen KS.seen KA.seen pair.now sent settled result)
             (Both (ShowsHandled KO.seen KS.seen KA.seen pair.now sent settled result) Same) self.old self.new }
     {
+        // The receiver's own count: it may be above what the sender knows to be settled.
         match self.mark(pair.to.kind(), Mark::Handled, pair) {
             Ok(handled) => show_pair(self.alloc, pair, sent, settled, handled),
             Err(told) => told,
@@ -149,6 +151,7 @@ where
         ensures { Passes KO.seen KS.seen KA.seen (ShowsSettled KO.seen KS.seen KA.seen pair.now sent result)
             (Both (ShowsSettled KO.seen KS.seen KA.seen pair.now sent result) Same) self.old self.new }
     {
+        // A function for each read: the search for a proof is limited, and so one goal has one call of a store.
         match self.mark(pair.from.kind(), Mark::Settled, pair) {
             Ok(settled) => self.pair_handled(pair, sent, settled),
             Err(told) => told,
@@ -160,6 +163,7 @@ where
         ensures { Passes KO.seen KS.seen KA.seen (ShowsPair KO.seen KS.seen KA.seen pair.now result)
             (Both (ShowsPair KO.seen KS.seen KA.seen pair.now result) Same) self.old self.new }
     {
+        // The order of the three reads is promised, since `fail` counts them.
         match self.mark(pair.from.kind(), Mark::Sent, pair) {
             Ok(sent) => self.pair_settled(pair, sent),
             Err(told) => told,
@@ -218,6 +222,7 @@ where
         match self.ask_all() {
             Ok(agree) => Ok(agree),
             Err(AuditFault::Purchasing(fault)) => {
+                // Only its cuts are wanted: the caller makes the outcome. The other services keep their connections.
                 self.purchasing.after(&mut self.mail, fault);
                 Err(fault)
             }

@@ -104,6 +104,7 @@ where
             (InPurchasing (Commits asked.now) result))
             self.old self.new }
     {
+        // A command sends nothing yet. The mail is lent for a store that fails, which cuts both connections.
         self.purchasing.commit(self.alloc, &mut self.mail, asked)
     }
 
@@ -161,11 +162,13 @@ where
     fn stop_broker(&mut self) -> Outcome
         ensures { Passes KO.seen KS.seen KA.seen (BeginsAnew result) (Both (BeginsAnew result) Same) self.old self.new }
     {
+        // Cut before the restart: a new broker numbers its sessions from 1 again, so an old number would be another's.
         self.purchasing.disconnect(&mut self.mail);
         self.warehouse.disconnect(&mut self.mail);
         self.billing.disconnect(&mut self.mail);
         match self.mail.restart() {
             Ok(()) => Outcome::Stopped,
+            // The broker stays, with its messages, but no connection is open any more.
             Err(_) => Outcome::Refused(34),
         }
     }
@@ -197,6 +200,7 @@ where
             Event::Repeat(place) => self.repeat(*place),
             Event::StopBroker => self.stop_broker(),
             Event::Pump(rounds) => {
+                // A pump is many steps and reports none: what isn't open, or has nothing to do, is passed over.
                 self.pump(*rounds);
                 Outcome::Pumped
             }
@@ -212,6 +216,7 @@ where
     fn pump_connection(&mut self, name: ConnectionName)
         ensures { PassesAll KO.seen KS.seen KA.seen (connection_events name) self.old self.new }
     {
+        // The numbers are part of the format: a schedule that writes a round out, line by line, does the same.
         self.at(name.service, ServiceEvent::Fill(name.number, 64));
         self.at(
             name.service,
@@ -221,6 +226,7 @@ where
             name.service,
             ServiceEvent::Carry(name.number, Way::Down, 1_048_576),
         );
+        // Without a look at what came: a take without a frame changes nothing. `taken` is for the loop's invariant.
         for taken in 0..16_u8 {
             self.at(name.service, ServiceEvent::Take(name.number));
         }
@@ -240,6 +246,7 @@ where
         };
         self.pump_connection(zero);
         self.pump_connection(one);
+        // Held letters are the service's and not a connection's, so one drain a round is for both.
         self.at(service, ServiceEvent::Drain(ConnectionNumber::Zero));
     }
 
@@ -247,6 +254,7 @@ where
     fn round(&mut self)
         ensures { PassesAll KO.seen KS.seen KA.seen round_events self.old self.new }
     {
+        // The service that asks comes first: both others take its letters in the same round.
         self.pump_service(ServiceName::Purchasing);
         self.pump_service(ServiceName::Warehouse);
         self.pump_service(ServiceName::Billing);
@@ -273,6 +281,7 @@ where
         ensures passes { Passes KO.seen KS.seen KA.seen (Makes (Passed KO.seen KS.seen KA.seen) event.now result)
             (Makes (Step KO.seen KS.seen KA.seen) event.now result) self.old self.new }
     {
+        // A call of its own with one clause, from which those of `step` and of `run` follow by a lemma.
         self.single_step(event)
     }
 
@@ -294,6 +303,7 @@ where
             events.now outcomes.old.items outcomes.new.items result }
     {
         for event in events {
+            // Room first: an event that ran without room for its outcome would go unreported.
             match outcomes.reserve(1) {
                 Ok(()) => {}
                 Err(_) => return Err(AllocError),

@@ -20,6 +20,7 @@ pub(crate) fn fault_told(fault: EndFault) -> Outcome
     ensures { result ≡ fault_told fault }
 {
     match fault {
+        // Two numbers are printed of it, 61 and its own: `Refused` has one.
         EndFault::Business(refusal) => Outcome::NotDone(refusal),
         _ => Outcome::Refused(fault.number()),
     }
@@ -42,6 +43,8 @@ pub(crate) fn fill_fate(answer: &Result<usize, RelayFault>) -> ChannelFate
 {
     match answer {
         Err(RelayFault::Endpoint(EndFault::StoreFailed)) => ChannelFate::BothAreCut,
+        // A fault of the client or of memory leaves the session as it was: the rows that are left can be sent on it
+        // later.
         _ => ChannelFate::Stays,
     }
 }
@@ -61,6 +64,7 @@ pub(crate) fn decoder_told(fault: FrameFault) -> Outcome
     ensures { result ≡ decoder_told fault }
 {
     match fault {
+        // 44 and not the decoder's own 1: schedules have one number for a client's side that is out of memory.
         FrameFault::Memory => Outcome::Refused(ClientFault::Memory.number()),
         _ => Outcome::Refused(fault.number()),
     }
@@ -71,6 +75,7 @@ pub(crate) fn decoder_fate(fault: FrameFault) -> ChannelFate
     ensures { result ≡ decoder_fate fault }
 {
     match fault {
+        // No octet was lost, so the call may be made again. A decoder with any other fault reads nothing more.
         FrameFault::Memory => ChannelFate::Stays,
         _ => ChannelFate::IsCut,
     }
@@ -111,7 +116,9 @@ fn reception_fate(fault: ReceptionFault) -> ChannelFate
     ensures { result ≡ reception_fate fault }
 {
     match fault {
+        // Of the client's faults this one alone is the server's. Out of memory or of numbers the frame waits.
         ReceptionFault::Client(ClientFault::Unexpected) => ChannelFate::IsCut,
+        // Nobody knows whether the frame was handled: the broker redelivers it, and it is recognized if it was.
         ReceptionFault::End(EndFault::StoreFailed) => ChannelFate::BothAreCut,
         _ => ChannelFate::Stays,
     }
@@ -147,6 +154,7 @@ pub(crate) fn taken_fate(answer: &Result<Taken, ReceptionFault>) -> ChannelFate
     ensures { result ≡ taken_fate answer.now }
 {
     match answer {
+        // A server ends the session with its ERROR, so nothing more comes on it.
         Ok(Taken::Error(_)) => ChannelFate::IsCut,
         Ok(_) => ChannelFate::Stays,
         Err(fault) => reception_fate(*fault),
@@ -169,6 +177,7 @@ pub(crate) fn drain_fate(answer: &Result<Option<Drained>, ReceptionFault>) -> Ch
     ensures { result ≡ drain_fate answer.now }
 {
     match answer {
+        // No frame is taken here, so nothing that a server sent can be at fault.
         Err(ReceptionFault::End(EndFault::StoreFailed)) => ChannelFate::BothAreCut,
         _ => ChannelFate::Stays,
     }

@@ -76,12 +76,14 @@ where
         result) }
     ensures matches { StillMatches K.seen endpoint.old endpoint.new H.service }
 {
+    // The endpoint's own first tests, made before the copy, so that a failed allocation hides neither fault.
     if !endpoint.usable() {
         return Err(EndFault::Unusable);
     }
     if asked.entity.kind() != H::kind() {
         return Err(EndFault::NotMine);
     }
+    // A schedule's events are only lent, and `commit` consumes its command.
     let command = H::copy_command(alloc, &asked.command)?;
     endpoint.commit(alloc, asked.seat.get(), &asked.entity, command)
 }
@@ -110,6 +112,7 @@ where
             Ok(taken)
         }
         Err(untaken) => {
+            // A frame only if nothing was written for it: kept after its answer, it would be answered twice.
             channel.waiting = untaken.frame;
             Err(untaken.fault)
         }
@@ -148,6 +151,7 @@ where
         ensures store { self.new.endpoint ≡ self.old.endpoint }
     {
         match fault {
+            // As in a live service: no later frame may speak of what the store doesn't have.
             EndFault::StoreFailed => self.disconnect(mail),
             _ => {}
         }
@@ -199,10 +203,12 @@ where
         match fate {
             ChannelFate::Stays => self.put_channel(number, channel),
             ChannelFate::IsCut => {
+                // Empty since the channel was taken out, but no clause of this call says so.
                 self.clear_channel(number);
                 hang_up(Some(channel), mail);
             }
             ChannelFate::BothAreCut => {
+                // Put back, so that both are cut in the order of their numbers, whichever met the failure.
                 self.put_channel(number, channel);
                 self.disconnect(mail);
             }
@@ -232,6 +238,7 @@ where
             result) }
     {
         if let Some(channel) = self.take_channel(number) {
+            // Put back as it was: a second session would lose what is on its way.
             self.put_channel(number, channel);
             return Outcome::Already;
         }
@@ -328,6 +335,7 @@ where
             result) }
     {
         let answer = self.endpoint.reopen(alloc);
+        // This and the cuts even if the reopening failed: a stopped process has no connections and nothing armed.
         self.endpoint.disarm();
         self.disconnect(mail);
         match answer {
@@ -373,6 +381,7 @@ where
             &mut self.endpoint,
             limit,
         );
+        // The fate first, since the outcome consumes the answer.
         self.meet(mail, fill_fate(&answer), number, channel);
         fill_told(answer)
     }

@@ -13,6 +13,7 @@ use text::push_octets;
 fn push_frame(alloc: Global, line: &mut String, letter: &Letter) -> Result<(), AllocError>
     ensures { OnOk result (string_bytes line.new ≡ string_bytes line.old ++ frame_line letter.now) }
 {
+    // Memory alone can fail here and in encoding. No `receipt`: its number is known only as the frame is sent.
     let Ok(frame) = letter_to_send(alloc, letter) else {
         return Err(AllocError);
     };
@@ -20,6 +21,7 @@ fn push_frame(alloc: Global, line: &mut String, letter: &Letter) -> Result<(), A
     if encode(&frame, &mut octets).is_err() {
         return Err(AllocError);
     }
+    // The escapes of octets and not those of words: a frame has LFs and ends with a NUL.
     push_octets(line, octets.as_slice())?;
     line.push('\n')
 }

@@ -65,6 +65,7 @@ pub(crate) fn push_stock_command(
     ensures { OnOk result (line.new.items ≡ line.old.items ++ shown_stock_command command.now) }
 {
     match command {
+        // A match over one command: another that is added doesn't compile without words of its own.
         StockCommand::Receive(quantity) => push_numbered(line, "receive ", *quantity),
     }
 }
@@ -126,6 +127,7 @@ fn push_line<H: Shown>(
     push_entity(lines, &row.entity)?;
     push_text(lines, " ")?;
     push_input::<H>(lines, &row.input)?;
+    // The only LF of the line: texts of entities have theirs escaped, and so have keys in commands.
     lines.push(b'\n')?;
     Ok(())
 }
@@ -144,6 +146,7 @@ pub fn show_journal<H: Shown>(
     let mut lines = Vec::new(alloc);
     let mut pos: u64 = 0;
     for row in rows {
+        // A row comes without its position. The reader asked from 1 on, and a journal has no gaps.
         pos += 1;
         push_line::<H>(&mut lines, pos, row)?;
     }

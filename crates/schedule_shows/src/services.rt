@@ -90,6 +90,7 @@ fn push_row<H: Shown>(line: &mut Vec<u8>, row: &Option<H::State>) -> Result<(), 
 {
     match row {
         Some(state) => H::push_state(line, state),
+        // With a space, as the words of every state begin with one.
         None => push_text(line, " none"),
     }
 }

@@ -26,6 +26,7 @@ fn push_partners(line: &mut Vec<u8>, order: &Order) -> Result<(), AllocError>
 {
     for at in 0..order.partner_count() {
         let Some(partner) = order.partner(at) else {
+            // The prover shows that this isn't reached, since `at` is below the count.
             unreachable!();
         };
         push_partner(line, partner)?;
@@ -48,6 +49,7 @@ pub(crate) fn push_order(line: &mut Vec<u8>, order: &Option<Order>) -> Result<()
 {
     match order {
         Some(order) => push_placed(line, order),
+        // As an order without a row: a state that counts as none is the opening state.
         None => push_text(line, " none"),
     }
 }

@@ -22,6 +22,7 @@ pub(crate) fn push_text(line: &mut Vec<u8>, text: &str) -> Result<(), AllocError
 pub(crate) fn push_numbered(line: &mut Vec<u8>, text: &str, number: u64) -> Result<(), AllocError>
     ensures { OnOk result (line.new.items ≡ line.old.items ++ told_number text.now number) }
 {
+    // On the stack, so that only the line itself can run out of memory.
     let mut digits = Buffer::new();
     push_text(line, text)?;
     push_text(line, digits.format(number))
@@ -31,10 +32,12 @@ pub(crate) fn push_numbered(line: &mut Vec<u8>, text: &str, number: u64) -> Resu
 pub fn spelled(octet: &u8) -> &[u8]
     ensures { result.now ≡ spelled octet.now }
 {
+    // Constant texts and the octet itself: outcomes are spelled by this too, and writing them must not allocate.
     match *octet {
         b'\\' => b"\\\\",
         b'\n' => b"\\n",
         b'\r' => b"\\r",
+        // A space would end the word where the line is read again.
         b' ' => b"\\s",
         _ => from_ref(octet),
     }
@@ -45,6 +48,7 @@ pub fn spelled(octet: &u8) -> &[u8]
 pub(crate) fn push_escaped(line: &mut Vec<u8>, word: &str) -> Result<(), AllocError>
     ensures { OnOk result (line.new.items ≡ line.old.items ++ escaped word.now) }
 {
+    // By octets and not by characters: all four that are escaped are ASCII, and part of no longer character.
     for octet in word.as_bytes() {
         line.extend_from_slice(spelled(octet))?;
     }

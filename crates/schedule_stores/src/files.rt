@@ -39,11 +39,13 @@ fn open_file<H: Filed, D: Start>(
     ensures { IfOk result (λ f. IsOpenedWith (IsFoundIn H.filing (image_at D.Start))
         (⟦<FileKeep<H, FileStore<FileFrom<D>>> as Keep>⟧.seen f)) }
 {
+    // To join a path allocates, and fails for nothing else.
     let Ok(path) = format!(in rt.alloc(); "{folder}/{name}") else {
         return Err(KeepFault::Memory);
     };
     match FileKeep::open(rt, path.as_str(), start) {
         Ok(keep) => {
+            // A call that does nothing: its clause is the law from which this function's clause follows.
             is_sound(&keep);
             Ok(keep)
         }
@@ -150,11 +152,13 @@ fn open_files<O: Start, S: Start, A: Start>(
     ensures billing { IfOk result (λ keeps. IsOpenedWith (IsFoundIn accounts (image_at A.Start))
         (⟦<FileKeep<Accounts, FileStore<FileFrom<A>>> as Keep>⟧.seen keeps.2)) }
 {
+    // `stores` is consumed: the value that represents a file's contents is for one opening.
     let (rt, folder, (orders, stocks, accounts)) = stores.into_parts();
     let orders = match open_file(&rt, folder.as_str(), "purchasing.db", orders) {
         Ok(keep) => keep,
         Err(fault) => return Err(StoresFault::Purchasing(fault)),
     };
+    // If this or the next fails, the files that are open are closed as they are dropped: nothing was run over them.
     let stocks = match open_file(&rt, folder.as_str(), "warehouse.db", stocks) {
         Ok(keep) => keep,
         Err(fault) => return Err(StoresFault::Warehouse(fault)),
@@ -184,6 +188,7 @@ pub(crate) fn run_files<O: Start, S: Start, A: Start, T: Write>(
         (T.contents out.old) (T.contents out.new) result }
 {
     match open_files(stores) {
+        // All three are open first, so that a file that can't be opened leaves no half of a run.
         Ok(keeps) => run_over_opened(alloc, keeps, events, out),
         Err(fault) => Err(RunFault::Unopened(fault)),
     }

@@ -36,6 +36,7 @@ pub fn a_run_in_sql_ends_well()
         → GoesOn ⟦<SqliteKeep<Orders, MemStore> as Keep>⟧.seen ⟦<SqliteKeep<Stocks, MemStore> as Keep>⟧.seen
         ⟦<SqliteKeep<Accounts, MemStore> as Keep>⟧.seen all_empty events outcomes run.first run.last }
 {
+    // The general law, for stores of which nothing is found but empty tables.
     a_run_goes_on::<SqliteStores>();
 }
 
@@ -56,6 +57,7 @@ pub fn a_run_over_files_goes_on<O: Start, S: Start, A: Start>()
         ⟦<FileKeep<Stocks, FileStore<FileFrom<S>>> as Keep>⟧.seen
         ⟦<FileKeep<Accounts, FileStore<FileFrom<A>>> as Keep>⟧.seen left events outcomes run.first run.last }
 {
+    // The law is about one type of store, so it is cited for each of the three.
     stores_are_sound::<FileKeep<Orders, FileStore<FileFrom<O>>>>();
     stores_are_sound::<FileKeep<Stocks, FileStore<FileFrom<S>>>>();
     stores_are_sound::<FileKeep<Accounts, FileStore<FileFrom<A>>>>();
@@ -77,6 +79,7 @@ pub fn a_run_over_new_files_ends_well<O: Start, S: Start, A: Start>()
         ⟦<FileKeep<Stocks, FileStore<FileFrom<S>>> as Keep>⟧.seen
         ⟦<FileKeep<Accounts, FileStore<FileFrom<A>>> as Keep>⟧.seen all_empty events outcomes run.first run.last }
 {
+    // Files that hold nothing are found with empty tables, which are good.
     a_run_over_files_goes_on::<O, S, A>();
 }
 
@@ -97,5 +100,6 @@ pub fn files_taken_over_go_on<O: Start, S: Start, A: Start>()
         ⟦<FileKeep<Stocks, FileStore<FileFrom<S>>> as Keep>⟧.seen
         ⟦<FileKeep<Accounts, FileStore<FileFrom<A>>> as Keep>⟧.seen left events outcomes run.first run.last }
 {
+    // Files are migrated to tables with the same rows in today's words, so the law is that of any files.
     a_run_over_files_goes_on::<O, S, A>();
 }

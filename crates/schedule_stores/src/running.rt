@@ -33,6 +33,7 @@ fn read_and_run<O: Start, S: Start, A: Start, R: Read, W: Write>(
         (AreFoundIn (image_at O.Start) (image_at S.Start) (image_at A.Start))) (λ _. ⊤) (R.remaining input.old)
         (W.contents out.old) (W.contents out.new) result }
 {
+    // Before a file is opened: a faulty schedule must not make files, nor change any.
     let events = read_events(alloc, input)?;
     run_files(alloc, stores, events, out)
 }
@@ -55,6 +56,7 @@ pub fn run_over_files<O: Start, S: Start, A: Start, R: Read, W: Write, E: Write>
 {
     match read_and_run(alloc, stores, input, out) {
         Ok(()) => 0,
+        // If standard error fails too, the status is all that is left to report by.
         Err(fault) => tell_fault(err, fault).unwrap_or(1),
     }
 }

@@ -19,6 +19,7 @@ use text::read_number;
 pub(crate) fn number_at(word: &Word) -> Result<u64, LineFault>
     ensures { Reads (λ n. n) result (number_of word.now) }
 {
+    // Not `parse`, which takes a plus and leading zeros: a number has one text.
     read_number(word.as_str()).ok_or(LineFault::Bad)
 }
 
@@ -48,8 +49,10 @@ pub(crate) fn key_at(alloc: Global, word: &Word) -> Result<Key, LineFault>
 {
     match Key::read(alloc, word.as_str()) {
         Ok(key) => Ok(key),
+        // A failed allocation says nothing of the word, so it isn't reported as a faulty line.
         Err(EntityFault::Memory) => Err(LineFault::Memory),
         Err(EntityFault::BadKey) => Err(LineFault::Bad),
+        // Never comes of a key, which has no kind: the fault is that of whole entities.
         Err(EntityFault::BadKind) => Err(LineFault::Bad),
     }
 }

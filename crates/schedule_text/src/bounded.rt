@@ -29,6 +29,7 @@ impl SeatNumber {
     pub fn new(number: u64) -> Option<SeatNumber>
         ensures { result ≡ seat_number number }
     {
+        // Compared as a `u64`: if it was cut down to a `u8` first, 256 would be seat 0.
         if number < SEATS as u64 {
             Some(SeatNumber {
                 number: number as u8,

@@ -30,11 +30,13 @@ fn read_item(alloc: Global, words: &[Word]) -> Result<Item, LineFault>
 fn read_placing(alloc: Global, words: &[Word]) -> Result<OrderCommand, LineFault>
     ensures { Reads (λ command. command) result (placing_of words.now) }
 {
+    // The rule itself, from which the limit on a line's words follows. Asked before a key is allocated.
     if words.len() > MOST_WORDS {
         return Err(LineFault::Bad);
     }
     let mut items = Vec::new(alloc);
     let mut rest = words;
+    // ACCOUNT AMOUNT are the last two. Where the count of words is odd one is left, which makes the line faulty.
     while rest.len() > 2 {
         let (pair, others) = rest.split_at(2);
         items.push(read_item(alloc, pair)?)?;
@@ -45,6 +47,7 @@ fn read_placing(alloc: Global, words: &[Word]) -> Result<OrderCommand, LineFault
     };
     let account = key_at(alloc, account)?;
     let amount = number_at(amount)?;
+    // No pair, more than eight, or a stock twice is a command all the same: the order refuses it, by 74.
     Ok(OrderCommand::Place {
         lines: Items::from_vec(items),
         account,
@@ -65,6 +68,7 @@ pub(crate) fn read_place(
     let seat = seat_at(seat)?;
     let key = key_at(alloc, key)?;
     let command = read_placing(alloc, arguments)?;
+    // A command's line has the key alone: the verb says of which kind the entity is.
     let entity = Entity::new(alloc, Kind::Order, &key)?;
     Ok(SeatCommand {
         seat,
@@ -105,6 +109,7 @@ pub(crate) fn read_receive(
     };
     let seat = seat_at(seat)?;
     let key = key_at(alloc, key)?;
+    // Any `u64`: a quantity that is out of range is for the stock to refuse, by 72, and is no faulty line.
     let quantity = number_at(quantity)?;
     let entity = Entity::new(alloc, Kind::Stock, &key)?;
     Ok(SeatCommand {
@@ -126,6 +131,7 @@ pub(crate) fn read_limit(
     };
     let seat = seat_at(seat)?;
     let key = key_at(alloc, key)?;
+    // Any `u64`, as in `read_receive`: the account refuses what is out of range.
     let limit = number_at(limit)?;
     let entity = Entity::new(alloc, Kind::Account, &key)?;
     Ok(SeatCommand {

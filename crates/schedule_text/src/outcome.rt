@@ -84,6 +84,7 @@ impl Outcome {
     pub fn told(&self) -> Pieces<'_>
         ensures { told_lines result ≡ outcome_lines self.now }
     {
+        // Borrowed pieces and no text, so that writing an outcome allocates nothing.
         match self {
             Outcome::Committed(pos) => Pieces::Number("committed ", *pos),
             Outcome::Opened => Pieces::Text("opened", ""),
@@ -109,6 +110,7 @@ impl Outcome {
             Outcome::Stopped => Pieces::Text("stopped", ""),
             Outcome::Pumped => Pieces::Text("pumped", ""),
             Outcome::Refused(number) => Pieces::Number("refused ", u64::from(*number)),
+            // 61 is the endpoint's number for every refusal as business, and the refusal's own follows.
             Outcome::NotDone(refusal) => {
                 Pieces::Number("refused 61 ", u64::from(refusal.number()))
             }

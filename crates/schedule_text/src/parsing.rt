@@ -23,6 +23,7 @@ use std::alloc::Global;
 fn read_service(words: &[Word]) -> Result<ServiceName, LineFault>
     ensures { Reads (λ service. service) result (alone service_of words.now) }
 {
+    // Every pattern over arguments has an exact length: a word too many makes the line faulty, and isn't passed over.
     let [service] = words else {
         return Err(LineFault::Bad);
     };
@@ -183,6 +184,8 @@ pub(crate) fn read_event(alloc: Global, words: &[Word]) -> Result<Event, LineFau
     let [name, arguments @ ..] = words else {
         return Err(LineFault::Bad);
     };
+    // In two steps: in one match over 21 words each arm with a `?` would be proved for all words that didn't match
+    // before it.
     match Verb::of_word(name.as_str()) {
         Some(verb) => read_arguments(alloc, verb, arguments),
         None => Err(LineFault::Bad),

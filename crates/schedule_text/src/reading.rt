@@ -34,6 +34,8 @@ fn is_quiet(line: &str) -> bool
 fn exceeds_events(line: &str) -> bool
     ensures { result ≡ (nat_lt LONGEST_LINE (length line.now) || nat_le MOST_WORDS (count_by (λ o. o == 32) line.now)) }
 {
+    // The length first: then at most 3,074 octets are searched for spaces. That is `place` with a verb of 7 octets, 18
+    // keys of 64 and 18 numbers of 20 digits, each octet escaped as two, and 36 spaces between.
     line.len() > LONGEST_LINE
         || line.as_bytes().iter().filter(|o| **o == b' ').count() >= MOST_WORDS
 }
@@ -42,6 +44,8 @@ fn exceeds_events(line: &str) -> bool
 fn read_said(alloc: Global, line: &str) -> Result<Event, LineFault>
     ensures { Reads (λ event. event) result (said_on event_of line.now) }
 {
+    // Only a saving, and no rule of the format: such a line would be refused below too, but a line of 100 MB would take
+    // 2.8 GB for its words first.
     if exceeds_events(line) {
         return Err(LineFault::Bad);
     }
@@ -53,6 +57,7 @@ fn read_said(alloc: Global, line: &str) -> Result<Event, LineFault>
 fn read_text(alloc: Global, line: &str) -> Result<Option<Event>, LineFault>
     ensures { Reads (λ found. found) result (found_in event_of line.now) }
 {
+    // Asked before the length is: a comment may be longer than any event.
     if is_quiet(line) {
         return Ok(None);
     }
@@ -64,6 +69,7 @@ fn read_text(alloc: Global, line: &str) -> Result<Option<Event>, LineFault>
 fn read_line(alloc: Global, line: &[u8]) -> Result<Option<Event>, LineFault>
     ensures { Reads (λ found. found) result (found_on event_of line.now) }
 {
+    // Before a look at the first octet, so that a comment has to be UTF-8 too.
     match str::from_utf8(line) {
         Ok(text) => read_text(alloc, text),
         Err(_) => Err(LineFault::Bad),
@@ -115,12 +121,15 @@ pub fn read_schedule(alloc: Global, text: &[u8]) -> Result<Vec<Event>, ScheduleF
     let mut number: u64 = 0;
     while !rest.is_empty() {
         let (line, after) = first_line(rest);
+        // Quiet lines count, so that a fault has the number that an editor shows.
         number += 1;
         let found = match read_line(alloc, line) {
             Ok(found) => found,
             Err(LineFault::Bad) => return Err(ScheduleFault::BadEvent(number)),
+            // Not the line's fault: with more memory the same schedule may be read.
             Err(LineFault::Memory) => return Err(ScheduleFault::Memory),
         };
+        // All events are held until the last line is read: one that is faulty must leave no half of a run.
         add(&mut events, found)?;
         rest = after;
     }

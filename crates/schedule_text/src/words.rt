@@ -36,11 +36,13 @@ impl Word {
     fn read(alloc: Global, part: &str) -> Result<Word, LineFault>
         ensures { Reads (λ w. w) result (word_of part.now) }
     {
+        // Two spaces in a row, or one at an end of the line, leave an empty part: there is no word of no octets.
         if part.is_empty() {
             return Err(LineFault::Bad);
         }
         let mut text = String::new(alloc);
         let mut rest = part;
+        // From backslash to backslash, so that a word without escapes is copied in one piece.
         while let Some((before, after)) = cut(rest, '\\') {
             text.push_str(before)?;
             let Some((octet, more)) = escaped(after) else {
@@ -59,6 +61,7 @@ fn cut(text: &str, separator: char) -> Option<(&str, &str)>
     requires { separator < 128 }
     ensures { IsCut separator text.now result }
 {
+    // Contracts count octets. Below 128 a separator is one octet, and is part of no longer character.
     text.split_once(separator)
 }
 
@@ -97,6 +100,7 @@ pub(crate) fn read_words(alloc: Global, line: &str) -> Result<Vec<Word>, LineFau
         words.push(Word::read(alloc, part)?)?;
         rest = after;
     }
+    // What follows the last space is a word too. If nothing does, the line ends in a space and is faulty.
     words.push(Word::read(alloc, rest)?)?;
     Ok(words)
 }

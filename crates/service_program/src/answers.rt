@@ -92,6 +92,7 @@ impl<'a, I: BufRead + Drop, W: Write + Drop> Desk<'a, I, W> {
 
     /// Answers a line that wasn't done.
     fn refuse<H: Handler, R: Log>(&mut self, rt: &R, fault: EndFault) -> io::Result<()> {
+        // First, so that the exit status names the store even if the answer can't be written.
         self.board.heed(fault);
         match fault {
             EndFault::Business(refusal) => self.refuse_business::<H, R>(rt, refusal),
@@ -108,6 +109,7 @@ impl<'a, I: BufRead + Drop, W: Write + Drop> Desk<'a, I, W> {
     fn wait_for_answer<R: Wait>(&mut self, rt: &R, asking: u64) {
         let board = self.board;
         for _ in rt.forever() {
+            // Looked at after each wake: the seat is woken for handled letters too.
             if board.askings.is_answered(asking) || board.life.is_over() {
                 break;
             }
@@ -128,6 +130,7 @@ impl<'a, I: BufRead + Drop, W: Write + Drop> Desk<'a, I, W> {
         let opened = board.openings.get();
         let settles = board.settles.get();
         let now = board.now(rt);
+        // A statement of its own: as the scrutinee it would hold the lock until the line is written.
         let waiting = board.waiting.lock(rt).show(self.alloc, now);
         match waiting {
             Ok(letter) => writeln!(
@@ -144,6 +147,7 @@ impl<'a, I: BufRead + Drop, W: Write + Drop> Desk<'a, I, W> {
         let board = self.board;
         // Whoever closes the input of a program that waits wants it to end. But lines that come at once, as from a
         // file, end long before their answers: so the input is over only where no line is left of it.
+        // The life is tested first: a failed store ends the wait without a look at the input.
         if board.life.has_ended() || self.input.is_over()? {
             return Ok(false);
         }
@@ -169,6 +173,7 @@ where
 {
     match shared.commit(rt, desk.alloc, seat, entity, command) {
         Ok(committed) => {
+            // Woken before the answer is written: letters don't wait for whoever reads standard output.
             desk.board.rests.wake(Resting::Relay);
             writeln!(desk.out, "committed {}", committed.pos)
         }
@@ -192,6 +197,7 @@ where
     ensures seat { IsSeatOf shared.now seat.new × (seat_number seat.new ≡ seat_number seat.old) }
 {
     match shared.view(rt, desk.alloc, seat, entity) {
+        // The line is made whole before it is written: if an allocation fails, no half of it was printed.
         Ok(row) => match show_row::<H, B>(desk.alloc, entity, &row) {
             Ok(line) => desk.out.write_all(line.as_slice()),
             Err(_) => desk.refuse::<H, R>(rt, EndFault::Memory),
@@ -215,6 +221,7 @@ where
     ensures seat { IsSeatOf shared.now seat.new × (seat_number seat.new ≡ seat_number seat.old) }
 {
     let mut length = shared.length(rt, seat);
+    // Turns of 1 ms: the 1,000 seconds that `--help` names. A handled letter may end a turn earlier.
     for _ in 0..TURNS {
         let has_waited = match length {
             Ok(there) if there < rows => desk.wait_for_rows(rt)?,
@@ -245,6 +252,7 @@ where
     requires seat { IsSeatOf shared.now seat.old }
     ensures seat { IsSeatOf shared.now seat.new × (seat_number seat.new ≡ seat_number seat.old) }
 {
+    // The turn has to end for this: only between turns is it seen what isn't settled.
     let asking = desk.board.ask();
     desk.wait_for_answer(rt, asking);
     match shared.length(rt, seat) {
@@ -296,9 +304,11 @@ where
     requires seat { IsSeatOf shared.now seat.old }
     ensures seat { IsSeatOf shared.now seat.new × (seat_number seat.new ≡ seat_number seat.old) }
 {
+    // Asking 1 is on the board from the start: nobody gives a line for it.
     desk.tell_connected(rt, 1)?;
     desk.out.flush()?;
     for _ in rt.forever() {
+        // Only a failed store ends it here: the lines that are left aren't read.
         if desk.board.life.has_ended() {
             break;
         }
@@ -308,6 +318,7 @@ where
                 answer::<H, B, K, I, W, R>(rt, shared, seat, desk, ask)?;
                 desk.out.flush()?;
             }
+            // The spell is over: the loop looks whether the store has failed, though no line comes.
             Ok(Came::Nothing) => (),
             Ok(Came::End) => break,
             // The line isn't lost: it waits until there is memory.
@@ -337,7 +348,9 @@ where
     ensures seats { AreSeatsOf shared.now result.1 }
 {
     let mut desk = desk;
+    // One seat is enough for lines that are answered one by one; the end of the life needs all sixteen back.
     let answered = answer_all::<H, B, K, I, W, R>(rt, shared, &mut seats[0], &mut desk);
+    // Also after a stream that failed: nothing else ends the other threads.
     desk.board.end();
     (answered, seats)
 }

@@ -56,6 +56,7 @@ fn read_text<H: Handler, B: Business<H>>(alloc: Global, line: &str) -> Ask<H::Co
         return Ask::Nothing;
     }
     match line.split_once(' ') {
+        // Before the business is asked: no business can take these words over.
         None if line == "connect" => Ask::Connect,
         None if line == "status" => Ask::Status,
         Some(("await", rows)) => read_await(rows),
@@ -74,6 +75,7 @@ fn read_beginning<C: Drop>(line: &[u8]) -> Ask<C> {
 
 /// Reads a line, without the LF that ends it.
 pub fn read_ask<H: Handler, B: Business<H>>(alloc: Global, line: &[u8]) -> Ask<H::Command> {
+    // First the length: what is kept of a longer line may end within a character.
     if line.len() > LONGEST {
         return read_beginning(line);
     }

@@ -114,6 +114,7 @@ impl Board {
 
     /// Whether a turn has to end: the program ends, connections are asked for, or they are due.
     pub fn is_due<R: Wait + Clock>(&self, rt: &R) -> bool {
+        // The lock and the clock last: each rest of each thread asks this.
         self.life.has_ended()
             || self.askings.are_left()
             || self.backoff.lock(rt).is_due(self.now(rt))
@@ -122,6 +123,7 @@ impl Board {
     /// Has a thread of the service rest until it's woken or connections are due.
     pub fn wait<R: Wait + Clock>(&self, rt: &R, who: Resting) {
         let left = self.backoff.lock(rt).left(self.now(rt));
+        // At least 1 ms: where something is due already, a rest of 0 would spin.
         let most = Duration::from_millis(left.clamp(1, PATIENCE));
         self.rests.wait(rt, who, most);
     }
@@ -141,7 +143,9 @@ impl Board {
 
     /// A connection was cut.
     pub fn lose<R: Wait + Clock>(&self, rt: &R) {
+        // The state before the wake, here and below: whoever is woken has to find it.
         self.backoff.lock(rt).lose(self.now(rt));
+        // A turn ends only once one of its threads looks at the board.
         self.rests.wake_all();
     }
 
@@ -162,6 +166,7 @@ impl Board {
     /// The service's threads have ended for good: no asking is answered any more.
     pub fn close(&self) {
         self.life.close();
+        // Nobody else is left to wake: the service's threads have ended.
         self.seat.unpark();
     }
 }

@@ -91,6 +91,7 @@ pub fn read_entity(alloc: Global, text: &str) -> Result<Entity, LineFault>
 pub fn read_key(alloc: Global, kind: Kind, key: &str) -> Result<Entity, LineFault>
     ensures { IsReadAs (entity_on (prefix_of kind ++ key.now)) result }
 {
+    // Read as a whole entity, so that a key has the escapes and limits that it has in `show`.
     let mut text = String::from_str(alloc, kind.prefix())?;
     text.push_str(key)?;
     read_entity(alloc, &text)

@@ -34,6 +34,7 @@ impl<'a> BoardGate<'a> {
 
     /// Ends it where the board says so.
     fn look<R: Wait + Clock>(&self, rt: &R) {
+        // Once a turn: else each rest would wake all the others again.
         if !self.stop.asked() && self.board.is_due(rt) {
             self.stop.ask();
             self.board.rests.wake_all();
@@ -104,6 +105,7 @@ impl<R: Wait + Clock + Log> Gate<R> for BoardGate<'_> {
     fn before_send(&self, _rt: &R) {}
 
     fn after_ingest(&self, _rt: &R) {
+        // The line `await` may wait for the row.
         self.board.seat.unpark();
     }
 
@@ -123,9 +125,11 @@ impl<R: Wait + Clock + Log> Gate<R> for BoardGate<'_> {
 
     fn rest(&self, rt: &R, who: Resting) {
         match who {
+            // Room in the intake wakes nobody, so a short sleep: a rest at the socket may last half a second.
             Resting::Full(_) => thread::sleep(rt, Duration::from_micros(MOMENT)),
             _ => self.board.wait(rt, who),
         }
+        // After each rest: none is longer than half a second, so that a turn ends within that time of being due.
         self.look(rt);
     }
 
@@ -135,6 +139,7 @@ impl<R: Wait + Clock + Log> Gate<R> for BoardGate<'_> {
 
     fn cut(&self, rt: &R, number: u8, cut: Cut) {
         tell_cut(rt, number, &cut);
+        // Before `lose` wakes all: if the store has failed, they find the end and not only the pause.
         if let Cut::Reception(ReceptionFault::End(fault)) = cut {
             self.board.heed(fault);
         }

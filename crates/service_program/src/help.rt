@@ -62,6 +62,7 @@ fn push_entries(
     entries: &[(&str, &str)],
 ) -> Result<(), AllocError> {
     for (words, meaning) in entries {
+        // As wide as the first column of `LINES`, which is printed below these entries.
         let line = format!(in alloc; "  {words:<35}  {meaning}\n")?;
         help.push_str(&line)?;
     }

@@ -105,6 +105,7 @@ impl Waits {
         }
         match self.poll.poll(&mut self.events, Some(most)) {
             Ok(()) => self.events.iter().next().is_some(),
+            // A wait that failed counts as nothing: the next call waits again.
             Err(_) => false,
         }
     }
@@ -154,6 +155,7 @@ impl<I: BufRead + Drop> InputLines<I> {
             None if self.has_ended && length > 0 => (length, length),
             None => return Ok(None),
         };
+        // Copied before the text is cut: if the allocation fails, the line is still there.
         let line = Vec::from_slice(self.alloc, &self.text[..end])?;
         drop(self.text.drain(..next));
         Ok(Some(line))
@@ -164,8 +166,10 @@ impl<I: BufRead + Drop> InputLines<I> {
         let piece = self.input.fill_buf()?;
         let count = piece.len();
         self.text.extend_from_slice(piece)?;
+        // Consumed only once it is kept: if that failed, the reader still has the piece.
         self.input.consume(count);
         self.has_ended = count == 0;
+        // A line without an end takes no more memory than its limit and a block, however long it gets.
         if !self.text.contains(&b'\n') {
             self.text.truncate(KEPT);
         }
@@ -188,10 +192,12 @@ impl<I: BufRead + Drop> InputLines<I> {
         if let Some(line) = self.take_line()? {
             return Ok(Came::Line(line));
         }
+        // After the lines: at the end of the input there may be many that aren't answered yet.
         if self.has_ended {
             return Ok(Came::End);
         }
         if self.is_held || self.waits.is_ready(most) {
+            // Only read here: what came may be no whole line, so the next call looks.
             self.read()?;
         }
         Ok(Came::Nothing)
@@ -206,6 +212,7 @@ impl<I: BufRead + Drop> InputLines<I> {
         ensures over { IfOk result (λ over. over ≡ true → (self.new.has_ended ≡ true) × (self.new.text.items ≡ [])) }
     {
         let is_idle = self.text.is_empty() && !self.has_ended;
+        // No time: whoever asks waits for rows of the journal, not for the input.
         if is_idle && (self.is_held || self.waits.is_ready(Duration::from_millis(0))) {
             match self.read() {
                 Err(error) if error.kind() != ErrorKind::OutOfMemory => return Err(error),

@@ -30,6 +30,7 @@ impl Life {
 
     /// The program is to end, unless it does already.
     pub fn end(&self) {
+        // The greatest stays: an `end` that comes after `close` doesn't lower the stage again.
         self.stage.fetch_max(ENDING, Ordering::SeqCst);
     }
 

@@ -63,6 +63,7 @@ impl Overdue {
         if is_overdue {
             self.pause = self.pause.saturating_mul(2).min(LONGEST);
         } else if !is_same {
+            // Another first letter. With the first as before, and settles meanwhile, the pause stays as it is.
             self.pause = FIRST;
         }
         self.first = first;
@@ -89,12 +90,15 @@ impl Overdue {
     {
         let now = board.now(rt);
         let is_time = now >= self.next;
+        // Read at each look, and not only when it is time: whether a letter is unsettled decides about silent
+        // connections.
         let first = match unsettled(rt, alloc, shared, scout, &None, 1) {
             Ok(letters) => {
                 note_first(rt, alloc, board, letters.as_slice(), now);
                 first_place(letters)
             }
             Err(fault) => {
+                // What can't be read isn't overdue: nothing is resent for it.
                 board.heed(fault);
                 None
             }
@@ -104,6 +108,7 @@ impl Overdue {
             return false;
         }
         let is_overdue = self.found(first, board.settles.get());
+        // After `found`, which sets the pause: so each further attempt waits twice as long.
         self.next = now.saturating_add(self.pause);
         is_overdue
     }

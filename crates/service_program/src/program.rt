@@ -112,7 +112,9 @@ fn try_settings<'a, E: Write>(
 ) -> io::Result<Result<Settings<'a>, u8>> {
     match try_greeting(alloc, &settings.broker) {
         Ok(()) => Ok(Ok(settings)),
+        // Out of memory is no fault of the words: status 1, and not 2.
         Err(FrameFault::Memory) => Ok(Err(tell_fault(err, RunFault::Memory)?)),
+        // Words that no CONNECT can hold are refused before the start: a connection would fail again and again.
         Err(_) => {
             writeln!(err, "{BAD_GREETING}")?;
             Ok(Err(2))
@@ -134,6 +136,7 @@ pub fn read_words<'a, W: Write, E: Write>(
 ) -> io::Result<Result<Settings<'a>, u8>> {
     match read_settings(alloc, program, words) {
         Ok(settings) => try_settings(alloc, settings, err),
+        // Taken out first: `clap` reports it like a fault of the words, which ends with status 2.
         Err(error) if error.kind() == WordFault::OutOfMemory => {
             Err(io::Error::from(ErrorKind::OutOfMemory))
         }
@@ -206,6 +209,7 @@ where
     R: Threads + Wait + Clock + Log + Sync,
 {
     let alloc = host.alloc();
+    // `clap` borrows the help, so it is made whether it is printed or not.
     let help = help_of(alloc, texts, IN_MEMORY)?;
     let program = ProgramText {
         texts,

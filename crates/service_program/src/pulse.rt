@@ -58,6 +58,7 @@ impl Pulse {
             let quiet = self.heard.saturating_add(QUIET);
             quiet.min(self.opened.saturating_add(LONGEST))
         } else {
+            // Counted from the opening: octets that are no CONNECTED win a mute broker no time.
             self.opened.saturating_add(GREETING)
         }
     }
@@ -72,6 +73,7 @@ impl Pulse {
         } else if !is_connected {
             Some(Silence::Unanswered)
         } else if now >= self.opened.saturating_add(LONGEST) {
+            // Before silence, which is overlooked while letters are unsettled: age never is.
             Some(Silence::Old)
         } else {
             Some(Silence::Quiet)

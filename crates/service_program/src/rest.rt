@@ -22,6 +22,7 @@ struct Ready {
 /// Where one thread waits until a socket is ready or another thread wakes it. A socket that is closed is of no account
 /// any more.
 pub struct Rest {
+    // Locked only to wait: sockets are registered and wakes sent by handles of their own, which wait for no poll.
     ready: Mutex<Ready>,
     registry: Registry,
     waker: Waker,
@@ -68,11 +69,13 @@ impl Rest {
     pub fn wait<R: Wait>(&self, rt: &R, most: Duration) {
         let mut guard = self.ready.lock(rt);
         let Ready { poll, events } = &mut *guard;
+        // Which event came doesn't matter: whoever is woken looks at all that concerns it.
         let _ = poll.poll(events, Some(most));
     }
 
     /// Wakes the thread that waits, or else the next that does.
     pub fn wake(&self) {
+        // A wake that the system refuses costs time and nothing else: each rest ends by itself.
         let _ = self.waker.wake();
     }
 }

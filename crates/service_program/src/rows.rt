@@ -59,6 +59,7 @@ fn show_words(alloc: Global, entity: &Entity, words: &str) -> Result<Vec<u8>, Al
 {
     let mut line = Vec::new(alloc);
     push_entity(&mut line, entity)?;
+    // The line begins with the entity that was asked for, whatever the words of the state are.
     line.push(b' ')?;
     push_words(&mut line, words)?;
     line.push(b'\n')?;

@@ -31,6 +31,8 @@ use std::{io, thread};
 /// How the service ended, whose lines were answered so.
 fn end_of(answered: io::Result<()>, board: &Board) -> Result<(), RunFault> {
     match answered {
+        // Tested first, and once all threads are joined: a failed store ends the lines without an error, and it may
+        // still fail while what was read is processed.
         _ if board.life.is_broken() => Err(RunFault::Store),
         Ok(()) => Ok(()),
         Err(error) => Err(RunFault::of_kind(error.kind())),
@@ -169,6 +171,8 @@ where
     let Tokens { mut hand, scout } = tokens;
     let past = Past::<N, L, H, K>::new(tools.site.host.alloc(), &shared, &mut hand);
     let tokens = Tokens { hand, scout };
+    // A lock that no other thread takes: two closures would take a `&mut`, which the borrow checker doesn't cover,
+    // and a thread can return only what is `Drop`.
     let past = Mutex::new(past);
     let (ended, seats, tokens) = run_threads::<N, L, H, B, K, I, W, R>(
         rt, tools, &shared, seats, tokens, &past,
@@ -241,6 +245,7 @@ where
     };
     let tools = Tools { site, desk };
     let endpoint = Endpoint::new(keep);
+    // Taken before `open` moves the endpoint under the lock: the clause of `live` begins with what was found.
     let found = Snapshot::of(&endpoint);
     match Shared::<H, K>::open(rt, host.alloc(), endpoint) {
         Ok(opened) => {
@@ -248,6 +253,7 @@ where
                 hand: opened.2,
                 scout: opened.3,
             };
+            // `_life` owns the store: one in files copies its log when it is dropped here.
             let (_life, ended) = live::<Brand, Socket, H, B, K, I, W, R>(
                 rt, tools, opened.0, found, opened.1, tokens,
             );

@@ -95,6 +95,8 @@ where
         if self.is_open() {
             return true;
         }
+        // Noted before a new one is opened: a connection that isn't on the list is missing from what is said of the
+        // life. Out of memory counts as not opened, and is retried after the pause.
         if past.note(shared, hand, &mut self.line).is_err() {
             return false;
         }
@@ -103,6 +105,8 @@ where
             Ok(()) => {
                 log_open(rt, number, site.broker);
                 site.board.openings.note();
+                // Read after `open`, which may wait 2 s for each address: the time for CONNECT to be answered begins
+                // now.
                 let now = site.board.now(rt);
                 site.board.backoff.lock(rt).note_opened(now);
                 self.watched.is_over = false;
@@ -131,6 +135,8 @@ where
             mut line,
             watched: _watched,
         } = self;
+        // The note may need memory, which is waited out: what isn't noted can't be closed, and the law of lives needs
+        // all.
         for _ in rt.forever() {
             if past.note(shared, hand, &mut line).is_ok() {
                 line.close();
@@ -146,6 +152,7 @@ where
         if self.is_open() {
             self.watched.pulse.last(self.line.is_connected())
         } else {
+            // Never due by itself: what isn't open waits for the backoff (`plan`).
             u64::MAX
         }
     }
@@ -163,11 +170,14 @@ where
         if !self.is_open() {
             return;
         }
+        // First what came, so that a broker that has just answered isn't taken for a silent one.
         if self.line.has_come() {
             self.watched.pulse.hear(now);
         }
         match self.watched.pulse.silence(self.line.is_connected(), now) {
             None => (),
+            // Counted as heard, though nothing came: the next look is a minute away. Else it would be due again at
+            // once.
             Some(Silence::Quiet) if has_unsettled => self.watched.pulse.hear(now),
             Some(silence) => {
                 log_silence(rt, self.watched.number, silence);
@@ -179,7 +189,9 @@ where
     /// Takes leave of the broker, and waits until it has answered, for some time at most: a socket that is closed while
     /// octets wait in it unread is reset, and the broker may lose what was written last.
     fn leave<R: Wait + Clock>(&mut self, rt: &R, alloc: Global, board: &Board) {
+        // Set whatever becomes of DISCONNECT: the next `open` replaces the connection.
         self.watched.is_over = true;
+        // None if the connection is gone or DISCONNECT can't be written: then no receipt comes.
         let Some(receipt) = self.line.leave() else {
             return;
         };
@@ -228,6 +240,7 @@ fn log_silence<R: Log>(rt: &R, number: u8, silence: Silence) {
 /// Logs that letters are resent, and the first of them: who looks for what is stuck begins there.
 fn log_overdue<R: Wait + Clock + Log>(rt: &R, alloc: Global, board: &Board) {
     let now = board.now(rt);
+    // A statement of its own: as the scrutinee of the match it would hold the lock while the line is logged.
     let first = board.waiting.lock(rt).show(alloc, now);
     match first {
         Ok(first) => {
@@ -247,6 +260,7 @@ where
     H: Handler,
     K: Keep<State = H::State, Command = H::Command> + Drop,
 {
+    // Two fields and no array: each generic caller would owe that an array of connections fits in memory.
     zero: Slot<N, L, H, K>,
     one: Slot<N, L, H, K>,
 }
@@ -296,6 +310,7 @@ where
             let next = due.min(self.zero.next()).min(self.one.next());
             board.backoff.lock(rt).set_due(next);
         } else {
+            // One that is closed makes all due after the pause: the other is then looked at too.
             board.backoff.lock(rt).put_off(board.now(rt));
         }
     }
@@ -407,6 +422,7 @@ where
     // start: four threads, some 0.2 ms. What was read stays with the other connection.
     let turn = BoardGate::new(alloc, site.board, &stop);
     let Conns { zero, one } = conns;
+    // The threads get the places and return them. What is known beside them stays, as only this thread uses it.
     let Slot {
         line: zero,
         watched: watched_zero,
@@ -417,6 +433,7 @@ where
     } = one;
     let held = Held { tokens, zero, one };
     let (held, served) = run_lines(rt, alloc, shared, held, &turn, &stop);
+    // No thread ran, so nothing changed. Without the pause the loop would spin until there is memory.
     if served.is_err() {
         warn!(rt; "out of memory for the service's threads: they are started again in a moment");
         thread::sleep(rt, Duration::from_millis(MOMENT));
@@ -463,21 +480,26 @@ where
     let mut conns = Conns::none(shared, &mut tokens.hand);
     let mut overdue = Overdue::new();
     for _ in rt.forever() {
+        // At once, if no thread could be made for this: it was called all the same, since it returns the tokens.
         if board.life.has_ended() {
             break;
         }
+        // Letters first: whether one is unsettled decides what silence means, and what `give_up` marks is reopened
+        // below.
         if overdue.look(rt, alloc, shared, &mut tokens.scout, board) {
             log_overdue(rt, alloc, board);
             conns.give_up();
         }
         conns.look(rt, alloc, board, overdue.has_unsettled());
         conns.open(rt, site, shared, &tokens.hand, &mut *past);
+        // Planned before the turn, which a time that has passed would end at once.
         conns.plan(rt, board, overdue.next());
         let turned = run_turn(rt, site, shared, tokens, conns);
         tokens = turned.0;
         conns = turned.1;
     }
     conns.leave(rt, alloc, board);
+    // Closed before the notes, which may wait for memory: nobody has to wait for an asking meanwhile.
     board.close();
     conns.end(rt, shared, &tokens.hand, &mut *past);
     tokens

@@ -89,8 +89,10 @@ impl Reach for Socket {
 
     fn reach(site: Site<'_>, number: u8) -> io::Result<Socket> {
         let stream = connect_first(site.host, site.broker)?;
+        // Two handles of one socket, since a link reads by one value and writes by another.
         let writer = TcpStream::from_std(stream.try_clone()?);
         let mut reader = TcpStream::from_std(stream);
+        // One handle is enough to watch: the poll reports both octets to read and room to write.
         site.board.rests.reader(number).watch(&mut reader)?;
         Ok(StreamLink::new(reader, writer))
     }
@@ -99,6 +101,7 @@ impl Reach for Socket {
 /// A socket to the first address of the host that accepts.
 // By the system's own runtime, no type parameter: what is sent to a thread may not depend on a parameter's `Net`.
 fn connect_first(host: &HostRuntime, broker: Broker<'_>) -> io::Result<net::TcpStream> {
+    // Reported if the name has no address at all.
     let mut last = io::Error::from(ErrorKind::AddrNotAvailable);
     let found = (broker.address, broker.port).to_socket_addrs(host)?;
     for one in found {
@@ -114,7 +117,9 @@ fn connect_first(host: &HostRuntime, broker: Broker<'_>) -> io::Result<net::TcpS
 fn connect(host: &HostRuntime, address: SocketAddr) -> io::Result<net::TcpStream> {
     let most = Duration::from_millis(PATIENCE);
     let stream = net::TcpStream::connect_timeout(host, &address, most)?;
+    // Else the system holds short frames back until what went before is acknowledged.
     stream.set_nodelay(true)?;
+    // Only once it is connected: until then the call above is to wait, for its time at most.
     stream.set_nonblocking(true)?;
     Ok(stream)
 }
@@ -133,9 +138,11 @@ where
     requires noted { line.old.link ≡ None }
 {
     let alloc = site.host.alloc();
+    // CONNECT is made before the socket, so that a failed allocation costs none. `read_words` has tried the words.
     let Ok(connect) = site.broker.greet(alloc) else {
         return Err(io::Error::from(ErrorKind::OutOfMemory));
     };
+    // Nothing is written on the link before `open_by`: what a life has written is counted from there.
     let link = L::reach(site, number)?;
     match line.open_by(alloc, link, &connect, site.broker.prefetch) {
         Ok(()) => Ok(()),

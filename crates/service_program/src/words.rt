@@ -35,7 +35,8 @@ pub struct ProgramText<'a> {
     pub help: &'a str,
 }
 
-// Each option is made where it's added: one that waited for others would be dropped, part by part, at each exit of theirs.
+// Each option is made where it's added: one that waited for others would be dropped, part by part, at each exit of
+// theirs.
 
 /// With `--service`, which takes one of these words.
 fn with_service<'a>(
@@ -212,6 +213,7 @@ fn broker_of<'a>(matches: &ArgMatches<'a>) -> Broker<'a> {
     let prefetch = matches.get_one::<u16>("prefetch").unwrap_or(0);
     Broker {
         address: matches.get_str("address").unwrap_or(ADDRESS),
+        // The option is required, so 0 never gets here.
         port: matches.get_one::<u16>("port").unwrap_or(0),
         host: matches.get_str("host").unwrap_or(HOST),
         login: matches.get_str("login"),

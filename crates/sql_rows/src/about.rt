@@ -47,6 +47,7 @@ fn add_about<S: Alter>(tx: &mut Transaction<'_, S>, service: Service) -> Result<
         → OnOk result (Founds service (state S.Store tx.old.conn.now) (state S.Store tx.new.conn.now)) }
     ensures on { IsUnderWay (state S.Store tx.old.conn.now) (state S.Store tx.new.conn.now) }
 {
+    // `one` isn't bound: SQLite numbers the only row by 1, which the check asks for.
     write(
         tx,
         "INSERT INTO about (version, service) VALUES (2, ?1)",

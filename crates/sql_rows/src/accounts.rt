@@ -38,6 +38,8 @@ pub fn put_account<S: Alter>(
         → KeepsCommit (state S.Store tx.old.conn.now) (state S.Store tx.new.conn.now) }
     ensures survives { Survives (state S.Store tx.old.conn.now) (state S.Store tx.new.conn.now) (λ _. ⊥) }
 {
+    // REPLACE: the caller needn't know whether there is a row. It deletes and inserts; a trial that wrote in place
+    // was faster, and isn't proved.
     write(
         tx,
         "INSERT OR REPLACE INTO accounts (key, limit_now, billed, held) VALUES (?1, ?2, ?3, ?4)",
@@ -61,6 +63,7 @@ pub fn take_account<S: Alter>(tx: &mut Transaction<'_, S>, key: &str) -> Result<
         → KeepsCommit (state S.Store tx.old.conn.now) (state S.Store tx.new.conn.now) }
     ensures survives { Survives (state S.Store tx.old.conn.now) (state S.Store tx.new.conn.now) (λ _. ⊥) }
 {
+    // The lines refer to this row: the caller takes them first.
     write(tx, "DELETE FROM accounts WHERE key = ?1", &[text(key)])
 }
 
@@ -86,6 +89,7 @@ pub fn add_account_line<S: Alter>(
         → KeepsCommit (state S.Store tx.old.conn.now) (state S.Store tx.new.conn.now) }
     ensures survives { Survives (state S.Store tx.old.conn.now) (state S.Store tx.new.conn.now) (λ _. ⊥) }
 {
+    // No REPLACE: all lines were taken before, so one that is there is a fault.
     write(
         tx,
         "INSERT INTO account_lines (account, order_key, n, phase) VALUES (?1, ?2, ?3, ?4)",
@@ -115,6 +119,7 @@ pub fn put_account_line<S: Alter>(
         → KeepsCommit (state S.Store tx.old.conn.now) (state S.Store tx.new.conn.now) }
     ensures survives { Survives (state S.Store tx.old.conn.now) (state S.Store tx.new.conn.now) (λ _. ⊥) }
 {
+    // A step writes this line alone, however many the account has.
     write(
         tx,
         "INSERT OR REPLACE INTO account_lines (account, order_key, n, phase) \
@@ -192,6 +197,7 @@ pub fn read_account<S: Alter>(conn: &mut Connection<S>, key: &str) -> Result<Vec
     ensures crash { HasCleanDisk (state S.Store conn.new) → (db : Trees)
         → (state S.Store conn.new).may_leave db → (state S.Store conn.old).may_leave db }
 {
+    // ORDER BY even for one row: SQL promises no order without it, and the contract lists rows in one.
     read(
         conn,
         "SELECT limit_now, billed, held FROM accounts WHERE key = ?1 ORDER BY key",
@@ -218,6 +224,7 @@ pub fn read_account_lines<S: Alter>(
     ensures crash { HasCleanDisk (state S.Store conn.new) → (db : Trees)
         → (state S.Store conn.new).may_leave db → (state S.Store conn.old).may_leave db }
 {
+    // In order of the orders' keys, as a state has its lines.
     read(
         conn,
         "SELECT order_key, n, phase FROM account_lines WHERE account = ?1 \

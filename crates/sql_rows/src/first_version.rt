@@ -30,6 +30,7 @@ fn create_first_orders<S: Alter>(tx: &mut Transaction<'_, S>) -> Result<usize, E
         (state S.Store tx.old.conn.now) (state S.Store tx.new.conn.now)) }
     ensures on { IsUnderWay (state S.Store tx.old.conn.now) (state S.Store tx.new.conn.now) }
 {
+    // Version 1 had one stock for each order, so its orders are one table.
     write(
         tx,
         "CREATE TABLE orders (key TEXT NOT NULL, stock TEXT NOT NULL, n INTEGER NOT NULL, \
@@ -71,6 +72,7 @@ fn create_first<S: Alter>(tx: &mut Transaction<'_, S>) -> Result<usize, Error>
         (state S.Store tx.old.conn.now) (state S.Store tx.new.conn.now)) }
     ensures on { IsUnderWay (state S.Store tx.old.conn.now) (state S.Store tx.new.conn.now) }
 {
+    // The common tables are those of today: only `orders` was another.
     create_common(tx)?;
     create_first_orders(tx)?;
     create_first_about(tx)
@@ -151,6 +153,7 @@ pub fn read_first_orders_inside<S: Alter>(tx: &mut Transaction<'_, S>) -> Result
         → KeepsCommit (state S.Store tx.old.conn.now) (state S.Store tx.new.conn.now) }
     ensures survives { Survives (state S.Store tx.old.conn.now) (state S.Store tx.new.conn.now) (λ _. ⊥) }
 {
+    // Inside the transaction that replaces the table: what is read is what is dropped.
     read_inside(
         tx,
         "SELECT key, stock, n, account, amount, status, stock_phase, account_phase FROM orders \

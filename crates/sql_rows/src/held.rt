@@ -35,6 +35,7 @@ pub fn put_held<S: Alter>(
         → KeepsCommit (state S.Store tx.old.conn.now) (state S.Store tx.new.conn.now) }
     ensures survives { Survives (state S.Store tx.old.conn.now) (state S.Store tx.new.conn.now) (λ _. ⊥) }
 {
+    // REPLACE, for what a change says. An endpoint asks before: of two letters with one number the first stays.
     write(
         tx,
         "INSERT OR REPLACE INTO held (sender, receiver, number, body) VALUES (?1, ?2, ?3, ?4)",

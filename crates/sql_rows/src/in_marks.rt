@@ -34,6 +34,7 @@ pub fn put_in_marks<S: Alter>(
         → KeepsCommit (state S.Store tx.old.conn.now) (state S.Store tx.new.conn.now) }
     ensures survives { Survives (state S.Store tx.old.conn.now) (state S.Store tx.new.conn.now) (λ _. ⊥) }
 {
+    // REPLACE: a pair's first mark and each later one are one statement.
     write(
         tx,
         "INSERT OR REPLACE INTO in_marks (sender, receiver, handled) VALUES (?1, ?2, ?3)",

@@ -67,6 +67,7 @@ pub fn add_message<S: Alter>(
         → KeepsCommit (state S.Store tx.old.conn.now) (state S.Store tx.new.conn.now) }
     ensures survives { Survives (state S.Store tx.old.conn.now) (state S.Store tx.new.conn.now) (λ _. ⊥) }
 {
+    // Without a seat: a row has a seat, or a sender and a number.
     write(
         tx,
         "INSERT INTO journal (entity, sender, number, body) VALUES (?1, ?2, ?3, ?4)",
@@ -157,6 +158,7 @@ pub fn count_rows_inside<S: Alter>(tx: &mut Transaction<'_, S>) -> Result<Vec<Ro
         → KeepsCommit (state S.Store tx.old.conn.now) (state S.Store tx.new.conn.now) }
     ensures survives { Survives (state S.Store tx.old.conn.now) (state S.Store tx.new.conn.now) (λ _. ⊥) }
 {
+    // For a migration, whose rows are read and counted before they are committed.
     read_inside(tx, "SELECT count(*) FROM journal", &[])
 }
 
@@ -179,6 +181,7 @@ pub fn count_rows_within<S: Alter>(
     ensures crash { HasCleanDisk (state S.Store conn.new) → (db : Trees)
         → (state S.Store conn.new).may_leave db → (state S.Store conn.old).may_leave db }
 {
+    // An opening compares this with the number of all rows: if they are equal, no position is missing.
     read(
         conn,
         "SELECT count(*) FROM journal WHERE pos >= ?1 AND pos <= ?2",

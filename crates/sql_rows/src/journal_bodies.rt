@@ -61,6 +61,7 @@ pub fn set_body<S: Alter>(
         → KeepsCommit (state S.Store tx.old.conn.now) (state S.Store tx.new.conn.now) }
     ensures survives { Survives (state S.Store tx.old.conn.now) (state S.Store tx.new.conn.now) (λ _. ⊥) }
 {
+    // Row by row: the kit's SQL has no functions for JSON, so no statement could rewrite all bodies.
     write(
         tx,
         "UPDATE journal SET body = ?2 WHERE pos = ?1",

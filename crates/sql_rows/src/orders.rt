@@ -38,6 +38,7 @@ pub fn put_order_head<S: Alter>(
         → KeepsCommit (state S.Store tx.old.conn.now) (state S.Store tx.new.conn.now) }
     ensures survives { Survives (state S.Store tx.old.conn.now) (state S.Store tx.new.conn.now) (λ _. ⊥) }
 {
+    // Before the lines of the order, which refer to this row.
     write(
         tx,
         "INSERT OR REPLACE INTO order_heads (key, account, amount, status, account_phase) \
@@ -94,6 +95,7 @@ pub fn add_order_line<S: Alter>(
         → KeepsCommit (state S.Store tx.old.conn.now) (state S.Store tx.new.conn.now) }
     ensures survives { Survives (state S.Store tx.old.conn.now) (state S.Store tx.new.conn.now) (λ _. ⊥) }
 {
+    // A row's `line` is its place in the order: lines are read back as they were placed, and not sorted by stock.
     write(
         tx,
         "INSERT INTO order_lines (order_key, line, stock, n, phase) VALUES (?1, ?2, ?3, ?4, ?5)",
@@ -117,6 +119,7 @@ pub fn take_order_lines<S: Alter>(tx: &mut Transaction<'_, S>, order: &str) -> R
         → KeepsCommit (state S.Store tx.old.conn.now) (state S.Store tx.new.conn.now) }
     ensures survives { Survives (state S.Store tx.old.conn.now) (state S.Store tx.new.conn.now) (λ _. ⊥) }
 {
+    // All of them: an order has at most eight lines and is always written whole.
     write(
         tx,
         "DELETE FROM order_lines WHERE order_key = ?1",

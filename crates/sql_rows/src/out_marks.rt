@@ -89,6 +89,7 @@ pub fn find_marks<S: Alter>(
         → KeepsCommit (state S.Store tx.old.conn.now) (state S.Store tx.new.conn.now) }
     ensures survives { Survives (state S.Store tx.old.conn.now) (state S.Store tx.new.conn.now) (λ _. ⊥) }
 {
+    // One row has both marks, and is written whole: whoever raises one reads the other here first.
     read_inside(
         tx,
         "SELECT sent, settled FROM out_marks WHERE sender = ?1 AND receiver = ?2 \

@@ -36,6 +36,7 @@ pub fn put_outbox<S: Alter>(
         → KeepsCommit (state S.Store tx.old.conn.now) (state S.Store tx.new.conn.now) }
     ensures survives { Survives (state S.Store tx.old.conn.now) (state S.Store tx.new.conn.now) (λ _. ⊥) }
 {
+    // REPLACE, for what a change says: the row is set, whatever was there.
     write(
         tx,
         "INSERT OR REPLACE INTO outbox (sender, receiver, number, body) VALUES (?1, ?2, ?3, ?4)",
@@ -88,6 +89,7 @@ pub fn read_letters<S: Alter>(conn: &mut Connection<S>, limit: i64) -> Result<Ve
     ensures crash { HasCleanDisk (state S.Store conn.new) → (db : Trees)
         → (state S.Store conn.new).may_leave db → (state S.Store conn.old).may_leave db }
 {
+    // A text of its own for the beginning: no place is before all others.
     read(
         conn,
         "SELECT sender, receiver, number, body FROM outbox \
@@ -118,6 +120,8 @@ pub fn read_letters_after<S: Alter>(
     ensures crash { HasCleanDisk (state S.Store conn.new) → (db : Trees)
         → (state S.Store conn.new).may_leave db → (state S.Store conn.old).may_leave db }
 {
+    // The first test leaves the pair's own sender and those after it, so that the others may compare receivers and
+    // numbers.
     read(
         conn,
         "SELECT sender, receiver, number, body FROM outbox WHERE sender >= ?1 \

@@ -67,6 +67,7 @@ fn create_orders<S: Alter>(tx: &mut Transaction<'_, S>) -> Result<usize, Error>
         (state S.Store tx.old.conn.now) (state S.Store tx.new.conn.now)) }
     ensures on { IsUnderWay (state S.Store tx.old.conn.now) (state S.Store tx.new.conn.now) }
 {
+    // Heads first, for each service: the lines refer to them.
     create_order_heads(tx)?;
     create_order_lines(tx)
 }

@@ -177,6 +177,7 @@ fn rebuild<S: Alter>(tx: &mut Transaction<'_, S>) -> Result<usize, Error>
         (state S.Store tx.old.conn.now) (state S.Store tx.new.conn.now)) }
     ensures on { IsUnderWay (state S.Store tx.old.conn.now) (state S.Store tx.new.conn.now) }
 {
+    // In the order in which a new file gets them: a schema is compared with a new one, table by table.
     rebuild_order_heads(tx)?;
     rebuild_order_lines(tx)?;
     rebuild_about(tx)
@@ -219,6 +220,7 @@ pub fn set_version<S: Alter>(tx: &mut Transaction<'_, S>, service: Service) -> R
         → KeepsCommit (state S.Store tx.old.conn.now) (state S.Store tx.new.conn.now) }
     ensures survives { Survives (state S.Store tx.old.conn.now) (state S.Store tx.new.conn.now) (λ _. ⊥) }
 {
+    // Deleted and inserted, as `about` takes no second row.
     forget_version(tx, service)?;
     tell_version(tx, service)
 }

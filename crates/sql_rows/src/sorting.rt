@@ -26,7 +26,9 @@ pub fn with_sorted_rows<S: Alter + Drop>(
     ensures autocommit { IfOk result (λ c. c.in_transaction ≡ false) }
     ensures clean { IfOk result (λ c. doubt (state S.Store conn).is_clean ≤ doubt (state S.Store c).is_clean) }
 {
+    // Taken apart and made again: that rowids rise is stated of a store, and not of a connection.
     let store = conn.into_store();
+    // Nothing can be made over a broken store: the caller gets it back.
     if store.is_broken() {
         return Err((Error::SqliteFailure(ErrorCode::Closed), store));
     }

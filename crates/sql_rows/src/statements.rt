@@ -19,6 +19,7 @@ use sqlite::{Alter, Connection, Error, Row, Transaction};
 pub fn text(text: &str) -> ValueRef<'_>
     ensures { owned result ≡ Text text.now }
 {
+    // Bound and never spliced: whatever a key holds, the statement stays what its proof is about.
     ValueRef::Text(text.as_bytes())
 }
 
@@ -44,6 +45,7 @@ pub fn write<S: Alter>(
         → KeepsCommit (state S.Store tx.old.conn.now) (state S.Store tx.new.conn.now) }
     ensures survives { Survives (state S.Store tx.old.conn.now) (state S.Store tx.new.conn.now) (λ _. ⊥) }
 {
+    // Only passed on, here and below: callers need these clauses, for a text of their own.
     tx.execute(sql, params)
 }
 

@@ -69,6 +69,7 @@ pub fn take_stock<S: Alter>(tx: &mut Transaction<'_, S>, key: &str) -> Result<us
         → KeepsCommit (state S.Store tx.old.conn.now) (state S.Store tx.new.conn.now) }
     ensures survives { Survives (state S.Store tx.old.conn.now) (state S.Store tx.new.conn.now) (λ _. ⊥) }
 {
+    // The lines refer to this row: the caller takes them first.
     write(tx, "DELETE FROM stocks WHERE key = ?1", &[text(key)])
 }
 
@@ -94,6 +95,7 @@ pub fn add_stock_line<S: Alter>(
         → KeepsCommit (state S.Store tx.old.conn.now) (state S.Store tx.new.conn.now) }
     ensures survives { Survives (state S.Store tx.old.conn.now) (state S.Store tx.new.conn.now) (λ _. ⊥) }
 {
+    // No REPLACE: all lines were taken before, so one that is there is a fault.
     write(
         tx,
         "INSERT INTO stock_lines (stock, order_key, n, phase) VALUES (?1, ?2, ?3, ?4)",
@@ -123,6 +125,7 @@ pub fn put_stock_line<S: Alter>(
         → KeepsCommit (state S.Store tx.old.conn.now) (state S.Store tx.new.conn.now) }
     ensures survives { Survives (state S.Store tx.old.conn.now) (state S.Store tx.new.conn.now) (λ _. ⊥) }
 {
+    // A step writes this line alone, however many the stock has.
     write(
         tx,
         "INSERT OR REPLACE INTO stock_lines (stock, order_key, n, phase) VALUES (?1, ?2, ?3, ?4)",

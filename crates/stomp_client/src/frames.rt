@@ -71,6 +71,7 @@ fn with_given(
         return Ok(frame);
     };
     let mut frame = frame;
+    // The value is a user's word, so it may be refused; the headers that `push` adds are the client's own.
     match frame.push_header(name, value) {
         Ok(()) => Ok(frame),
         Err(fault) => Err(fault),
@@ -136,6 +137,7 @@ pub fn subscribe_frame(alloc: Global, destination: &str) -> Result<Frame<MAX_BOD
     // A session has one subscription, so one id does.
     push(&mut frame, "id", "0")?;
     push(&mut frame, "destination", destination)?;
+    // In mode `client` an ACK would answer all earlier messages too, handled or not.
     push(&mut frame, "ack", "client-individual")?;
     Ok(frame)
 }
@@ -203,6 +205,7 @@ pub fn answer_frame(
     // It does nothing: by its contract the MESSAGE's `ack` fits into the answer.
     message.holds();
     let mut frame = Frame::new(alloc, command);
+    // Always there: a MESSAGE without `ack` isn't accepted.
     if let Some(id) = message.get("ack") {
         push(&mut frame, "id", id)?;
     }

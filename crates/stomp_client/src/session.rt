@@ -55,6 +55,7 @@ pub struct ClientSession<T: Drop> {
     stage: Stage,
     out: Outgoing,
     receipts: Receipts<T>,
+    // The last number alone: which transactions are open is for the caller to know.
     transactions: u64,
 }
 
@@ -231,6 +232,7 @@ impl<T: Drop> ClientSession<T> {
         ensures does { Connects self.old.client self.new.client result }
         ensures wrote { Adds (frames_if result (connect_frame ∷ [])) self.old.client.out self.new.client.out }
     {
+        // Tested before the frame is made, so that out of memory never hides the stage; `connect_by` tests it again.
         self.may_connect()?;
         let frame = connect_frame(self.alloc)?;
         self.connect_by(&frame)
@@ -263,6 +265,7 @@ impl<T: Drop> ClientSession<T> {
         ensures wrote { Adds (frames_if result (subscribe_frame destination.now ∷ [])) self.old.client.out
             self.new.client.out }
     {
+        // The stage first, here and below: out of memory never hides that the session has ended.
         self.ready()?;
         let frame = subscribe_frame(self.alloc, destination)?;
         self.write(&frame)?;
@@ -315,6 +318,7 @@ impl<T: Drop> ClientSession<T> {
             self.old.client.out self.new.client.out }
     {
         let number = self.next(self.receipts.last())?;
+        // The SEND is written before its number is opened: octets can be taken back, and a number is given once.
         let frame = with_number(message, "receipt", number)?;
         let before = self.out.as_slice().len();
         self.write(&frame)?;
@@ -411,6 +415,7 @@ impl<T: Drop> ClientSession<T> {
         self.ready()?;
         let frame = Frame::new(self.alloc, Command::Disconnect);
         self.write(&frame)?;
+        // Closed only once DISCONNECT is written: if that fails, the session is as it was.
         self.stage = Stage::Closed;
         Ok(())
     }
@@ -445,6 +450,7 @@ impl<T: Drop> ClientSession<T> {
         ensures accepts { Accepts frame self.old.client self.new.client result }
         ensures room { self.new.room ≡ self.old.room }
     {
+        // After the end no frame counts, not even one that would have been right before.
         if self.stage == Stage::Closed {
             return Err(ClientFault::Closed);
         }
@@ -452,6 +458,7 @@ impl<T: Drop> ClientSession<T> {
             Command::Connected => self.accept_connected(frame),
             Command::Message => self.accept_message(frame),
             Command::Receipt => self.accept_receipt(frame),
+            // In any stage that isn't closed: a server also refuses CONNECT by an ERROR.
             Command::Error => Ok(self.accept_error(frame)),
             _ => Err(self.refuse()),
         }
@@ -473,6 +480,7 @@ impl<T: Drop> ClientSession<T> {
         ensures accepts { Accepts frame self.old.client self.new.client result }
         ensures room { self.new.room ≡ self.old.room }
     {
+        // A second CONNECTED too: this session asked for one.
         if self.stage != Stage::Connecting {
             return Err(self.refuse());
         }
@@ -498,6 +506,7 @@ impl<T: Drop> ClientSession<T> {
         ensures accepts { Accepts frame self.old.client self.new.client result }
         ensures room { self.new.room ≡ self.old.room }
     {
+        // Before CONNECTED nothing was written that could ask for a receipt.
         if self.stage != Stage::Connected {
             return Err(self.refuse());
         }

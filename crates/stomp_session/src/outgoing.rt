@@ -65,6 +65,7 @@ impl Outgoing {
     pub fn room(&self) -> usize
         ensures { result ≡ self.now.room }
     {
+        // What was taken and is still in front doesn't count as room: only `taken` moves octets.
         self.octets.capacity() - self.octets.len()
     }
 
@@ -176,6 +177,7 @@ impl Outgoing {
     pub fn truncate(&mut self, len: usize)
         ensures { self.new.octets ≡ take len self.old.octets }
     {
+        // Counted from the first that wasn't taken, as callers see it.
         let kept = len.min(self.len());
         self.octets.truncate(self.start + kept);
     }

@@ -94,6 +94,7 @@ fn push_ack(out: &mut Vec<u8>, ack: Option<u64>) -> Result<(), AllocError>
     ensures err { OnErr result (Extends out.old.items out.new.items) }
 {
     match ack {
+        // The LF in front ends the line before: so no line is left open where there is no number.
         Some(number) => push_both(out, b"\nack:", Buffer::new().format(number)),
         None => Ok(()),
     }
@@ -127,6 +128,7 @@ const FRAME: usize = 192;
 
 /// How long a MESSAGE is at most where nothing is escaped.
 fn room_of(delivery: &Delivery) -> usize {
+    // Saturating: for a sum that doesn't fit, the allocation fails.
     let mut room = delivery.body.len().saturating_add(FRAME);
     room = room.saturating_add(delivery.destination.len());
     room = room.saturating_add(delivery.subscription.len());
@@ -165,6 +167,7 @@ pub fn write_plain(delivery: &Delivery, out: &mut Vec<u8>) -> Result<(), AllocEr
     ensures err { OnErr result (out.new.items ≡ out.old.items) }
 {
     let before = out.len();
+    // Mostly the reservation fails. That the pushes stay within it isn't proved, so what was appended is taken back.
     if push_message(out, delivery).is_err() {
         out.truncate(before);
         return Err(AllocError);

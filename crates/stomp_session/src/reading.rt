@@ -70,6 +70,7 @@ fn send(mut headers: Vec<Header>, body: Vec<u8>) -> Send
     requires { lacks (frame Command.Send headers.items body.items) ≡ false }
     ensures { Request.Send result ≡ asked (frame Command.Send headers.items body.items) }
 {
+    // The headers come after what is taken out of them: they are what is left.
     Send {
         destination: take_required(&mut headers, "destination"),
         transaction: take(&mut headers, "transaction"),

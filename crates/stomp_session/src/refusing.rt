@@ -14,6 +14,7 @@ use stomp_frame::{Command, Frame, Header};
 pub fn refusal(connected: bool, frame: &Frame<MAX_BODY>) -> Option<SessionFault>
     ensures { result ≡ refusal_of connected frame.now }
 {
+    // First what is wrong in any session, then what is wrong in this one, then the frame itself.
     let opens = opens(frame.command());
     if is_server(frame.command()) {
         Some(SessionFault::WrongCommand)
@@ -51,6 +52,7 @@ pub fn is_ack(command: Command) -> bool
 pub fn sole_id(headers: &[Header]) -> Option<&str>
     ensures { option_copied result ≡ sole_id headers.now }
 {
+    // With `receipt` or `transaction` there is more to do: that takes the general way.
     if headers.len() != 1 {
         return None;
     }
@@ -89,6 +91,7 @@ fn lacks(frame: &Frame<MAX_BODY>) -> bool
         Command::Subscribe => lacks_any(frame, &["id", "destination"]),
         Command::Unsubscribe | Command::Ack | Command::Nack => lacks_any(frame, &["id"]),
         Command::Begin | Command::Commit | Command::Abort => lacks_any(frame, &["transaction"]),
+        // DISCONNECT requires none. A server's command was refused before.
         _ => false,
     }
 }
@@ -131,6 +134,7 @@ fn is_large(frame: &Frame<MAX_BODY>) -> bool
 {
     match frame.command() {
         Command::Send => {
+            // Not the destination: a MESSAGE has it under this name too, so that its line fits as the SEND's did.
             exceeds_any(frame, &["receipt", "transaction"]) || has_many_own(frame.headers())
         }
         Command::Subscribe | Command::Unsubscribe => exceeds_any(frame, &["receipt", "id"]),
@@ -139,6 +143,7 @@ fn is_large(frame: &Frame<MAX_BODY>) -> bool
             exceeds_any(frame, &["receipt", "transaction"])
         }
         Command::Disconnect => exceeds_any(frame, &["receipt"]),
+        // Of CONNECT nothing is echoed.
         _ => false,
     }
 }

@@ -77,6 +77,7 @@ fn error_headers(
 ) -> Result<Vec<Header>, AllocError>
     ensures { IfOk result (λ hs. hs.items ≡ error_headers number name.now (option_copied receipt.entry)) }
 {
+    // A number and a name, and no `SessionFault`: a server also reports faults that a session doesn't know.
     let message = format!(in alloc; "{number} {name}")?;
     let mut headers = Vec::with_capacity(alloc, 3)?;
     // A client whose versions don't do is to learn the one that does.
@@ -159,6 +160,7 @@ fn write_numbered<'a>(
         ("subscription", delivery.subscription),
         ("ack", ack),
     ];
+    // `ack` is the last, so that without it the slice is just shorter.
     let count = if delivery.ack.is_some() { 4 } else { 3 };
     write(
         Command::Message,
@@ -185,6 +187,7 @@ pub fn write_message(delivery: &Delivery, out: &mut Vec<u8>) -> Result<(), Sessi
     }
     let mut number = Buffer::new();
     let mut ack = Buffer::new();
+    // Without a number the 0 isn't written.
     write_numbered(
         delivery,
         number.format(delivery.number),

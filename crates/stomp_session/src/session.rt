@@ -89,6 +89,7 @@ impl ServerSession {
     pub fn accept(&mut self, frame: Frame<MAX_BODY>) -> Result<Request, Refused>
         ensures { Accepts self.old frame self.new result }
     {
+        // By reference: a frame that is refused goes back whole, for the ERROR that names its receipt.
         if let Some(fault) = refusal(self.connected, &frame) {
             return Err(Refused { fault, frame });
         }

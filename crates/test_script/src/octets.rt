@@ -25,6 +25,7 @@ pub fn read_octets(alloc: Global, text: &str) -> Result<Vec<u8>, LineFault>
 pub fn read_text(alloc: Global, text: &str) -> Result<String, LineFault>
     ensures { IfOk result (λ read. Spells text.now (string_bytes read) []) }
 {
+    // Tested after the escapes are read: each may be a part of a character.
     match String::from_utf8(read_octets(alloc, text)?) {
         Ok(text) => Ok(text),
         Err(_) => Err(LineFault::Unknown),

@@ -44,6 +44,7 @@ pub trait Script {
 fn is_quiet(line: &str) -> bool
     ensures { result ≡ is_quiet line.now }
 {
+    // Empty first: such a line has no first octet.
     line.is_empty() || line.as_bytes()[0] == b'#'
 }
 
@@ -78,6 +79,7 @@ pub fn answer_line<S: Script, W: Write>(
             script.show(answer, out)?;
             writeln!(out)
         }
+        // Not printed as the line's fault: with more memory the same line has another answer.
         Err(fault) if fault.is_memory() => Err(io::Error::from(ErrorKind::OutOfMemory)),
         Err(fault) => writeln!(out, "{fault}"),
     }
@@ -91,6 +93,7 @@ pub fn or_done(alloc: Global, text: String) -> Result<String, AllocError>
     ensures { IfOk result (λ answer. string_bytes answer ≡ or_done (string_bytes text)) }
 {
     if text.is_empty() {
+        // Nothing at all would look like an empty line of the script, which is printed as it is.
         String::from_str(alloc, "done")
     } else {
         Ok(text)
@@ -116,6 +119,7 @@ fn answer_input<R: AllocGlobal + Input + Print, S: Script>(
 ) -> io::Result<()> {
     let mut out = BufWriter::new(rt.alloc(), io::writer(rt))?;
     let answered = answer_lines(rt, script, &mut out);
+    // Before the fault of a line is returned, so that the answers above it are written. A fault of this hides that one.
     out.flush()?;
     answered
 }
@@ -131,6 +135,7 @@ pub fn run<R: AllocGlobal + Input + Print, S: Script>(
 ) -> io::Result<ExitCode> {
     match answer_input(rt, script) {
         Ok(()) => Ok(ExitCode::SUCCESS),
+        // Of a line or of the output's own buffer: both come as this kind.
         Err(error) if error.kind() == ErrorKind::OutOfMemory => Ok(ExitCode::from(NO_MEMORY)),
         Err(error) => Err(error),
     }

@@ -43,6 +43,7 @@ pub fn first_word(line: &str) -> (&str, &str)
     ensures word { result.0.now ≡ before_first (λ o. o == 32) line.now }
     ensures rest { result.1.now ≡ after_first (λ o. o == 32) line.now }
 {
+    // A line without a space is a word with nothing after it, so that a call without arguments is no case of its own.
     match line.split_once(' ') {
         Some((word, rest)) => (word, rest),
         None => (line, ""),
@@ -69,6 +70,7 @@ pub fn number(word: &str) -> Result<Number, LineFault>
 pub fn seat(word: &str) -> Result<u8, LineFault>
     ensures { ParsesWithin (λ seat. seat < SEATS) word.now result }
 {
+    // Parsed as a `u8`: a greater number is refused, where a cast would make another seat of it.
     match word.parse::<u8>() {
         Ok(seat) if seat < SEATS => Ok(seat),
         _ => Err(LineFault::Unknown),

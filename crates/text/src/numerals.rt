@@ -23,6 +23,7 @@ pub fn read_digits(text: &str) -> Option<u64>
 pub fn read_number(text: &str) -> Option<u64>
     ensures { result ≡ number_of text.now }
 {
+    // Refused though it has a value: 7 would have the texts `7` and `07`.
     if has_leading_zero(text.as_bytes()) {
         None
     } else {
@@ -47,5 +48,6 @@ fn are_all_digits(octets: &[u8]) -> bool
 fn has_leading_zero(octets: &[u8]) -> bool
     ensures { result ≡ has_leading_zero octets.now }
 {
+    // The length first: an empty text has no first octet. `0` alone leads nothing.
     octets.len() > 1 && octets[0] == b'0'
 }

@@ -25,6 +25,7 @@ fn meant_by(letter: u8) -> Option<u8>
         b'\\' => Some(b'\\'),
         b'n' => Some(b'\n'),
         b'r' => Some(b'\r'),
+        // This and NUL are for lines that are written by hand: `push_octet` prints neither so.
         b's' => Some(b' '),
         b'0' => Some(0),
         _ => None,
@@ -36,6 +37,7 @@ fn hex(high: u8, low: u8) -> Option<u8>
     ensures { result ≡ hex high low }
 {
     match (digit_of(high), digit_of(low)) {
+        // At most 255, since both are below 16.
         (Some(high), Some(low)) => Some(high * 16 + low),
         _ => None,
     }
@@ -50,6 +52,7 @@ fn escaped(text: &[u8]) -> Option<(u8, &[u8])>
         let octet = meant_by(*letter)?;
         return Some((octet, rest));
     }
+    // Two digits always, so that a digit may follow the escape.
     let (high, rest) = rest.split_first()?;
     let (low, rest) = rest.split_first()?;
     let octet = hex(*high, *low)?;
@@ -77,6 +80,7 @@ pub fn unescape(alloc: Global, text: &str) -> Result<Option<Vec<u8>>, AllocError
         (λ octets. Spells text.now octets.items [])) }
 {
     let mut octets = Vec::new(alloc);
+    // By octets: in UTF-8 a backslash is never part of a longer character.
     let mut rest = text.as_bytes();
     while !rest.is_empty() {
         let Some((octet, behind)) = front(rest) else {
@@ -108,6 +112,7 @@ fn push_octet(text: &mut String, octet: u8) -> Result<(), AllocError>
         b'\\' => text.push_str("\\\\"),
         b'\n' => text.push_str("\\n"),
         b'\r' => text.push_str("\\r"),
+        // After the backslash, which is one of these.
         32..=126 => text.push(char::from(octet)),
         _ => {
             text.push_str("\\x")?;

@@ -103,6 +103,7 @@ pub fn take_line_message<H: Holder>(
                 holder.free(sender, number)?;
             }
         }
+        // These are answers to orders, and a holder has asked nobody.
         Message::Tentative | Message::Refused => {}
     }
     Ok(())
@@ -121,6 +122,7 @@ fn ask<H: Holder>(
     ensures { IsTaken H.holding (on_request H.holding holder.old order.now number) holder.old outs.old holder.new
         outs.new result }
 {
+    // Asked once, since the answer and the line have to agree.
     let fits = holder.fits(number);
     let answer = if fits {
         Message::Tentative
@@ -156,6 +158,7 @@ fn add_line<H: Holder>(
     if fits {
         holder.hold(order, number)
     } else {
+        // A line too: a redelivered request finds it, and isn't answered twice.
         holder.refuse(order, number)
     }
 }

@@ -40,6 +40,7 @@ impl LinePhase {
         match self {
             LinePhase::Held => "held",
             LinePhase::Refused => "refused",
+            // One phase for both services, so that one proof serves both; only its words differ.
             LinePhase::Done => "shipped",
             LinePhase::Released => "released",
         }

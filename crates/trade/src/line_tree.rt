@@ -66,10 +66,12 @@ pub(crate) fn with_line(
         → items t.value ≡ with_line line.value (items tree.now.value)) }
 {
     match tree.as_ref() {
+        // The leaf that is there serves on both sides.
         Tree::Leaf => node(alloc, tree.clone()?, line, tree.clone()?),
         Tree::Node(left, here, _, right) => match line.as_ref().order().cmp(here.as_ref().order()) {
             Ordering::Less => {
                 let left = with_line(alloc, left, line)?;
+                // The other side is shared: only the path to the line is made again.
                 join(alloc, left, here.clone()?, right.clone()?)
             }
             // Equal never comes up: an order has one line at most.
@@ -104,6 +106,7 @@ pub(crate) fn with_phase(
                 kept(alloc, left, line.clone()?, *height, right.clone()?)
             }
             Ordering::Equal => {
+                // Made again and not changed: older copies of the tree have this line too.
                 let line = Arc::new(alloc, line.as_ref().in_phase(alloc, phase)?)?;
                 kept(alloc, left.clone()?, line, *height, right.clone()?)
             }
@@ -121,6 +124,7 @@ pub(crate) fn total(tree: &Tree, phase: LinePhase) -> Option<u64>
 {
     match tree {
         Tree::Leaf => Some(0),
+        // Checked, though each share is at most 2^40: no bound is known for the number of lines.
         Tree::Node(left, line, _, right) => total(left.as_ref(), phase)?
             .checked_add(line.as_ref().share_of(phase))?
             .checked_add(total(right.as_ref(), phase)?),
@@ -187,6 +191,7 @@ fn node(
     ensures { IfOk result (λ t. items t.value ≡ items left.value ++ line.value ∷ items right.value) }
 {
     let higher = height(left.as_ref()).max(height(right.as_ref()));
+    // Saturating, since the height is a hint alone.
     kept(alloc, left, line, higher.saturating_add(1), right)
 }
 
@@ -200,6 +205,7 @@ fn join(
     ensures { IfOk result (λ t. items t.value ≡ items left.value ++ line.value ∷ items right.value) }
 {
     let (left_height, right_height) = (height(left.as_ref()), height(right.as_ref()));
+    // Higher by two at most, after one more line on one side: one turn balances it.
     if left_height > right_height.saturating_add(1) {
         lean_right(alloc, left, line, right)
     } else if right_height > left_height.saturating_add(1) {
@@ -222,6 +228,7 @@ fn lean_right(
         // Never so, since a tree that is too high has a line. No proof needs that: the lines would be the same.
         return node(alloc, left, line, right);
     };
+    // The outer part is no lower: a single turn brings it up, and leaves the inner one at its depth.
     if height(outer.as_ref()) >= height(inner.as_ref()) {
         let right = node(alloc, inner.clone()?, line, right)?;
         return node(alloc, outer.clone()?, first.clone()?, right);

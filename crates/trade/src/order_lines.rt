@@ -22,6 +22,7 @@ use std::sync::Arc;
 #[derive(Drop)]
 pub struct Lines {
     alloc: Global,
+    // `None` for no line: a leaf would have to be allocated for each opening state.
     root: Option<Arc<Tree>>,
 }
 
