@@ -1,8 +1,10 @@
 """Programs as processes: where a program is, and one that runs and is asked, measured, limited and ended."""
 import atexit
+import datetime
 import functools
 import os
 import pathlib
+import re
 import resource
 import select
 import subprocess
@@ -15,6 +17,10 @@ from .faults import Wrong
 
 TOP = pathlib.Path(__file__).resolve().parent.parent.parent
 SECONDS = 60  # the longest wait for an answer, unless a script says otherwise
+BEGUN = time.time()
+# A line of a log, after its time and without it.
+TIMED = re.compile(r"(\d{4}-\d\d-\d\dT\d\d:\d\d:\d\d\.\d{3})Z (\[(?:ERROR|WARN |INFO |DEBUG) .*)")
+UNTIMED = re.compile(r"\[(?:ERROR|WARN |INFO |DEBUG) ")
 
 
 class Ended(Wrong):
@@ -43,6 +49,20 @@ def wait_until(what, is_so, seconds=SECONDS):
         if time.monotonic() > until:
             raise Wrong(f"{seconds} seconds were over before {what}")
         time.sleep(0.01)
+
+
+def without_time(line):
+    """A line of standard error. If it is of the log it begins with its time in UTC, which is tested and left out."""
+    if UNTIMED.match(line):
+        raise Wrong(f"a line of the log has no time: {line}")
+    timed = TIMED.fullmatch(line)
+    if not timed:
+        return line
+    at = datetime.datetime.fromisoformat(timed[1]).replace(tzinfo=datetime.timezone.utc).timestamp()
+    # A second, since a system's clock may be set meanwhile.
+    if not BEGUN - 1 <= at <= time.time() + 1:
+        raise Wrong(f"a line of the log has another time than now: {line}")
+    return timed[2]
 
 
 def limited(kind, octets):
@@ -147,9 +167,10 @@ class Process:
         return answers
 
     def log_lines(self):
-        """All whole lines on standard error so far."""
+        """All whole lines on standard error so far, without the times of the log."""
         # (not by the file's own position, at which the program writes)
-        return os.pread(self.log.fileno(), os.fstat(self.log.fileno()).st_size, 0).decode(errors="replace").split("\n")[:-1]
+        octets = os.pread(self.log.fileno(), os.fstat(self.log.fileno()).st_size, 0)
+        return [without_time(it) for it in octets.decode(errors="replace").split("\n")[:-1]]
 
     def is_running(self):
         return self.process.poll() is None

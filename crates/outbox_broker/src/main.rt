@@ -15,7 +15,6 @@ use broker_server::{ServeFault, Stop, serve_watched};
 use clap::error::ErrorKind as WordFault;
 use command_line::{tell_bad_words, tell_words};
 use input::wait_for_end;
-use log::sink::Console;
 use log::{Logged, info};
 use mio::net::TcpListener;
 use plan::{Plan, plan_of};
@@ -25,6 +24,7 @@ use std::process::ExitCode;
 use std::sync::Wait;
 use std::time::Clock;
 use std::{env, io, thread};
+use timed_log::TimedConsole;
 use told::{BrokerLog, TARGET};
 use words::{Settings, USAGE, read_settings};
 
@@ -84,7 +84,7 @@ fn serve_all<R: Net + Wait + Clock>(
     plan: Plan,
     stop: &Stop,
 ) -> io::Result<u8> {
-    let log = Logged::new(*host, plan.level, Console(*host));
+    let log = Logged::new(*host, plan.level, TimedConsole(*host));
     if let Ok(address) = listener.local_addr() {
         info!(log; target: TARGET, "listening on {address}");
     }

@@ -34,10 +34,10 @@ is 0. Messages are kept in memory: they don't outlive it. It listens on 127.0.0.
 address of `--listen`, as 0.0.0.0 or :: for all that the machine has. There is no login and no TLS:
 whoever can reach the address may send, take and read all messages.
 
-What this machine is short of is told on standard error, a line each; with --log warn also which
-client is sent away and why, as `[WARN  outbox-broker] connection 7 ended: ..`, with --log info also
-who connects and leaves, with --log debug also sockets that close and what waits for memory. While
-standard error takes nothing nobody is served. With --figures a line
+What this machine is short of is logged on standard error, a line each after its time in UTC; with
+--log warn also which client is sent away and why, as `[WARN  outbox-broker] connection 7 ended: ..`,
+with --log info also who connects and leaves, with --log debug also sockets that close and what
+waits for memory. While standard error takes nothing nobody is served. With --figures a line
 `figures connections=N opened=N frames=N accepted=N read=N written=N held=N handed=N ready=N out=N`
 comes again and again: how many connections there are, since the start how many were opened, frames
 handled, messages accepted, and octets read and written; how many octets are held now; since the

@@ -32,8 +32,8 @@ use log::{Log, warn};
 use migration::take_over;
 use purchasing::Orders;
 use service_program::{
-    Broker, Business, Choices, ProgramText, RunFault, Settings, exit_code, help_of, read_words,
-    run_service, status_of,
+    Broker, Business, Choices, ProgramText, RunFault, Settings, WithLog, exit_code, help_of,
+    read_words, run_service, status_of, with_log,
 };
 use sqlite::Unknown;
 use std::process::ExitCode;
@@ -106,6 +106,7 @@ where
         broker,
         file,
         migrate,
+        log: _,
     } = settings;
     match file {
         // Before the service opens it: an opening refuses a file of version 1.
@@ -125,7 +126,7 @@ where
 /// Runs what the words of the command line ask for. The answer is the status.
 fn start<R>(rt: &R, host: &HostRuntime) -> io::Result<u8>
 where
-    R: Threads + Wait + Clock + Log + Sync,
+    R: Threads + Wait + Clock + Sync,
 {
     let alloc = host.alloc();
     let help = help_of(alloc, TEXTS, ENDING)?;
@@ -137,7 +138,10 @@ where
     };
     let (mut out, mut err) = (host.stdout(), host.stderr());
     match read_words(alloc, program, words.as_slice(), &mut out, &mut err)? {
-        Ok(settings) => status_of(&mut err, run(rt, host, settings)),
+        Ok(settings) => {
+            let log = with_log(rt, host, settings.log);
+            status_of(&mut err, run::<WithLog<'_, R>>(&log, host, settings))
+        }
         Err(status) => Ok(status),
     }
 }

@@ -213,6 +213,13 @@ pub fn words_that_are_no_text_are_told(alloc: Global) -> io::Result<u8> {
 }
 
 // A frame that can't be handled yet is put back, and no later one overtakes it.
+pub fn a_time_is_written(alloc: Global) -> Result<String, AllocError> {
+    match timed_log::Stamp::of_millis(951_782_400_007) {
+        Some(stamp) => format!(in alloc; "{stamp}"),
+        None => Ok(String::new(alloc)),
+    }
+}
+
 pub fn a_frame_that_was_put_back_is_the_next(alloc: Global) -> Result<bool, FrameFault> {
     let mut channel = Channel::new(alloc);
     channel.feed(b"RECEIPT\nreceipt-id:1\n\n\0RECEIPT\nreceipt-id:2\n\n\0")?;

@@ -13,7 +13,7 @@ pub use examples::{
     a_frame_that_was_put_back_is_the_next, a_free_room_is_promised, a_letter_comes_again,
     a_line_is_read_again, a_mark_is_one_change, a_mark_is_read,
     a_mark_is_the_greatest_number_raised, a_message_is_accepted, a_receipt_is_closed_once,
-    a_server_is_asked_to_end, a_settle_is_sent, a_transaction_keeps_its_actions,
+    a_server_is_asked_to_end, a_settle_is_sent, a_time_is_written, a_transaction_keeps_its_actions,
     an_entity_is_named_again, an_idle_destination_is_closed, an_order_is_refused,
     answers_reach_back_in_mode_client, first_state_of, lawful_journals_stay_lawful,
     letters_stay_delivered, no_mark_is_taken_back, nothing_goes_out_before_the_broker_answers,

@@ -25,7 +25,7 @@
 //!   and once an hour.
 //! - If the first letter that isn't settled stays the same for half a minute, and no other was settled, both connections are
 //!   reopened and so all letters are resent. That half minute doubles, up to an hour, as long as this letter stays.
-//! - What happens to connections, and the words of each refusal, are logged on standard error, as lines with a level.
+//! - What happens to connections, and the words of each refusal, are logged on standard error, a line each after its time and level.
 //! - At the end of the input, what was taken from the connections is processed, the broker is sent DISCONNECT, its receipt
 //!   is awaited for a second at most, and the program ends with status 0. It may be killed at any time. A failure of the
 //!   store ends it with status 1: started again, it opens its store again.
@@ -51,6 +51,7 @@ mod gate;
 mod help;
 mod input;
 mod life;
+mod logging;
 mod overdue;
 mod program;
 mod pulse;
@@ -67,6 +68,7 @@ pub use business::{Business, LineFault, read_entity, read_key};
 pub use console::{StandardStreams, Streams, standard_streams};
 pub use fault::RunFault;
 pub use help::help_of;
+pub use logging::{WithLog, with_log};
 pub use program::{
     Choices, Texts, exit_code, read_words, run_in_memory, run_main, run_service_program, status_of,
 };

@@ -7,6 +7,7 @@ use crate::business::Business;
 use crate::console::{Streams, standard_streams};
 use crate::fault::RunFault;
 use crate::help::{IN_MEMORY, help_of};
+use crate::logging::{WithLog, with_log};
 use crate::running::run_service_on;
 use crate::sockets::Broker;
 use crate::words::{ProgramText, Settings, read_settings};
@@ -182,7 +183,7 @@ fn tell_error<E: Write>(err: &mut E, error: io::Error, usage: &str) -> io::Resul
 
 /// Runs the program of one service over tables in memory, by these words of its command line, the program's name first, until
 /// its input ends. The runtime is passed twice: only in `main` it has threads, and sockets need the system's own. What happens
-/// to connections is logged by the runtime.
+/// to connections is logged on the system's standard error.
 ///
 /// The answer is the exit status: 0 at the end of the input; 1 where the store, a stream or the system failed; 2 where the words
 /// are at fault.
@@ -206,7 +207,7 @@ where
     I: BufRead + Drop,
     W: Write + Drop,
     E: Write,
-    R: Threads + Wait + Clock + Log + Sync,
+    R: Threads + Wait + Clock + Sync,
 {
     let alloc = host.alloc();
     // `clap` borrows the help, so it is made whether it is printed or not.
@@ -219,7 +220,8 @@ where
     let mut streams = streams;
     match read_words(alloc, program, words, &mut streams.out, err)? {
         Ok(settings) => {
-            let ended = run_in_memory::<H, B, I, W, R>(rt, host, settings, streams);
+            let log = with_log(rt, host, settings.log);
+            let ended = run_in_memory::<H, B, I, W, WithLog<'_, R>>(&log, host, settings, streams);
             status_of(err, ended)
         }
         Err(status) => Ok(status),
@@ -233,7 +235,7 @@ where
     H::State: Send,
     H::Command: Send,
     B: Business<H>,
-    R: Threads + Wait + Clock + Log + Sync,
+    R: Threads + Wait + Clock + Sync,
 {
     let words: Vec<String> = env::args(host)?.collect(host.alloc())?;
     let streams = standard_streams(host)?;
@@ -252,7 +254,7 @@ where
     H::State: Send,
     H::Command: Send,
     B: Business<H>,
-    R: Threads + Wait + Clock + Log + Sync,
+    R: Threads + Wait + Clock + Sync,
 {
     exit_code(host, texts.usage, start::<H, B, R>(rt, host, texts))
 }

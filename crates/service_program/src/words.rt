@@ -4,14 +4,22 @@ use crate::program::{Choices, Texts};
 use crate::sockets::Broker;
 use clap::builder::ValueParser;
 use clap::{Arg, ArgAction, ArgMatches, Command, Error, value_parser};
+use log::LevelFilter;
 use std::alloc::{AllocError, Global};
 use std::convert::AsStr;
+use std::str::FromStr;
 
 /// Where the broker is, where nothing else is said.
 const ADDRESS: &str = "127.0.0.1";
 
 /// Which of its hosts is meant, where nothing else is said.
 const HOST: &str = "outbox";
+
+/// What may follow `--log`.
+const LEVELS: &[&str] = &["off", "error", "warn", "info", "debug"];
+
+/// What is logged, where nothing else is said.
+const LEVEL: &str = "info";
 
 /// What the words ask for.
 #[derive(Clone, Copy, Debug)]
@@ -24,6 +32,8 @@ pub struct Settings<'a> {
     pub file: Option<&'a str>,
     /// Whether a file of version 1 is taken over.
     pub migrate: bool,
+    /// What is logged.
+    pub log: LevelFilter,
 }
 
 /// All that a program's command line is made of.
@@ -139,6 +149,19 @@ fn with_prefetch<'a>(alloc: Global, command: Command<'a>) -> Result<Command<'a>,
     )
 }
 
+/// With `--log`, which takes a level.
+fn with_log<'a>(alloc: Global, command: Command<'a>) -> Result<Command<'a>, AllocError> {
+    command.arg(
+        Arg::new(alloc, "log")
+            .long("log")
+            .action(ArgAction::Set)
+            .value_name("LEVEL")
+            .default_value(LEVEL)
+            .help("What is logged on standard error")
+            .value_parser(LEVELS),
+    )
+}
+
 /// With `--service`, where the program is more than one service.
 fn add_service<'a>(
     alloc: Global,
@@ -187,7 +210,14 @@ fn add_options<'a>(alloc: Global, command: Command<'a>) -> Result<Command<'a>, A
     let command = with_text(alloc, command, "login", "NAME", login)?;
     let passcode = "The user's passcode, which goes over the wire as it is";
     let command = with_text(alloc, command, "passcode", "NAME", passcode)?;
-    with_prefetch(alloc, command)
+    let command = with_prefetch(alloc, command)?;
+    with_log(alloc, command)
+}
+
+/// The level of a word.
+fn level_of(word: &str) -> LevelFilter {
+    // `clap` has refused each word that is no level.
+    LevelFilter::from_str(word).unwrap_or(LevelFilter::Info)
 }
 
 /// What the words ask for, whose matches these are. `clap` knows no option that wasn't added.
@@ -197,6 +227,7 @@ fn settings_of<'a>(matches: &ArgMatches<'a>, choices: Choices<'_>) -> Settings<'
         broker: broker_of(matches),
         file: None,
         migrate: false,
+        log: level_of(matches.get_str("log").unwrap_or(LEVEL)),
     };
     if !choices.services.is_empty() {
         settings.service = matches.get_str("service").unwrap_or("");
