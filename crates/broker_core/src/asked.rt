@@ -44,6 +44,7 @@ impl SharedSend {
                 receipt,
             }),
             Err(failed) => {
+                // Put together again: the session keeps the SEND, and tries it at the next feed.
                 let Sent {
                     destination,
                     headers,

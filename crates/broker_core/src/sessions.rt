@@ -118,6 +118,7 @@ impl Sessions {
             broker_of queues.new self.new ≡ dropped number old (find (is_session number) self.old.sessions) }
     {
         if let Some(at) = self.place(number) {
+            // Subscriptions first, so that none ever names a session that is gone.
             queues.end(number);
             // The hints stay as they are: what they name now is looked at before it counts.
             drop(self.items.remove(at));

@@ -85,6 +85,7 @@ impl Parts {
         ensures { result ≡ is_at_most best (queue_of (queue_at self.now.destinations)
             (slice_index_or self.now.active.names.items index [])).ready_from }
     {
+        // The hint is never above the first ready message: at worst it's too low, and costs a look in vain.
         match best {
             Some(pick) => {
                 pick.message.number
@@ -109,6 +110,7 @@ impl Parts {
                 .set_ready_from(name, self.last.saturating_add(1));
             return None;
         };
+        // The next subscriber's age: a look in vain passes all that there are, until one of them gets credit.
         let last = self.subscribers.next_age();
         let taken = next_taker(
             &self.subscribers,
@@ -155,6 +157,7 @@ impl Parts {
         ensures named { OnOk result (self.new.active.all ≡ false) }
     {
         if self.active.all {
+            // The flag falls only with the names in place: out of memory leaves it up for the next deal.
             let names = self.destinations.names()?;
             self.active.names = names;
             self.active.all = false;
@@ -193,6 +196,7 @@ impl Parts {
             (holding_of self.new) sink.new result }
         ensures whole { HandsWhole (holding_of self.old) message.number to.number (holding_of self.new) }
     {
+        // Message and taker are there: the pick was made by the same call of `dispatch`.
         let Some(stored) = self.messages.get(message.number, message.key) else {
             return Ok(());
         };
@@ -205,6 +209,7 @@ impl Parts {
         count_fewer(&mut self.destinations, &sent.destination);
         self.messages
             .set(message.number, message.key, Standing::Gone);
+        // Set to gone before: `purge` takes out nothing else.
         self.purge(message.number, message.key);
         Ok(())
     }
@@ -225,6 +230,7 @@ impl Parts {
         ensures whole { HandsWhole (holding_of self.old) message.number to.number (holding_of self.new) }
         ensures notes { NotesNoMore self.old.subscribers message.number to.number self.new.subscribers result }
     {
+        // A number is left: `may_take_more` asked for one before this taker was picked.
         let ack = self.given.saturating_add(1);
         let entry = Entry {
             ack,

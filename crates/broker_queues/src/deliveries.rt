@@ -313,6 +313,7 @@ impl Parts {
         ensures rest { SweepsOne (holding_of self.old) age (holding_of self.new) }
     {
         while let Some(entry) = self.first_stale(age, age_key) {
+            // Each round leaves fewer deliveries noted, so the search comes to an end.
             self.subscribers.forget(age, age_key, entry.number);
             self.purge(entry.number, entry.key);
         }

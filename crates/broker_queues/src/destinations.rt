@@ -137,6 +137,7 @@ pub fn mark(
         (awake_in active.old.all active.old.names.items) (awake_in active.new.all active.new.names.items) }
 {
     if again {
+        // In its old place the message may be before where the queue looks by now, and would be passed over.
         look_from(destinations, name, number);
         active.wake(destinations, name);
     } else {
@@ -263,6 +264,7 @@ pub fn number_or(place: Option<KeyedPlace>, number: u64) -> u64
 fn is_open_at(messages: &Messages, place: KeyedPlace, name: &Text) -> bool
     ensures { result ≡ opens messages.now name.now place.number }
 {
+    // A number that a queue lists is a hint: the message itself says what it is and where it goes.
     match messages.get(place.number, place.key) {
         Some(stored) => is_ready(stored.standing()) && stored.sent().get().destination.same(name),
         None => false,

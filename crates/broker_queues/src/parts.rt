@@ -83,6 +83,7 @@ impl Parts {
                 Ok(key)
             }
             Err(error) => {
+                // The number stays free: `last` is raised only once nothing can fail.
                 self.messages.remove(number, key);
                 Err(error)
             }

@@ -33,11 +33,13 @@ impl Parts {
         add_subscriber(&mut self.destinations, name, place)?;
         match self.sessions.push(session, place) {
             Ok(()) => {
+                // A new subscriber has credit: what nobody could take before may go out now.
                 free(&mut self.destinations, &mut self.active, name, place.number);
                 Ok(())
             }
             Err(error) => {
                 self.destinations.remove_subscriber(name, place.number);
+                // A queue that was opened for this subscriber alone is idle now, and nothing may ever come to it.
                 self.destinations.close(name);
                 Err(error)
             }
@@ -121,6 +123,7 @@ impl Parts {
         ensures { result ≡ find (is_named_at self.now.subscribers session id.now)
             (places_at self.now.sessions session) }
     {
+        // Only the session's own places are searched: names are unique within a session, and not beyond.
         self.first_named(self.sessions.get(session), session, id)
     }
 

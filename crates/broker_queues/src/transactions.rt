@@ -77,6 +77,7 @@ impl Parts {
         ensures { PutsAccepted full (holding_of self.old) accepted.old.items sent.now (holding_of self.new)
             accepted.new.items result }
     {
+        // Where no number is left this one is wrong, but `put` refuses the SEND then, and the entry goes.
         let one = Accepted {
             number: self.last.saturating_add(1),
             sent: sent.share()?,
@@ -305,6 +306,7 @@ impl Parts {
     fn put_back_all(&mut self, log: &mut Vec<Logged>)
         ensures { PutsBackAll (holding_of self.old) log.old.items (holding_of self.new) }
     {
+        // What was noted is moved and not shared, so that undoing never allocates.
         while let Some(logged) = log.pop() {
             self.put_back(logged);
         }
@@ -357,6 +359,7 @@ impl Parts {
         let len = accepted.as_slice().len();
         if let Err(fault) = self.act_all(full, session, actions, &mut undo_log, accepted) {
             self.undo(last, &mut undo_log);
+            // SENDs that were accepted before this transaction, and not taken yet, stay.
             accepted.truncate(len);
             return Err(fault);
         }

@@ -165,6 +165,7 @@ impl Room {
 
     /// Whether the limit stays met whatever is taken out of queues, since open transactions keep so much.
     pub(crate) fn is_stuck(&self, kept: u64) -> bool {
+        // Only a COMMIT or an ABORT frees so much: if none of their connections were read, that would last for good.
         match self.limit {
             Some(limit) => self.is_full && kept >= limit.eased,
             None => false,

@@ -111,6 +111,7 @@ pub fn serve_watched<R: Net + Wait + Clock, W: Watch, const FULL: usize>(
     let mut server = Server::open(rt, alloc, listener, options)?;
     for _ in rt.forever() {
         if stop.is_asked() {
+            // The broker outlives this loop: what is out to these sessions has to be ready again.
             server.connections.drop_sessions(broker);
             return Ok(());
         }

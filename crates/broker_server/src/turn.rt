@@ -175,10 +175,12 @@ pub(crate) fn write_some<S: Write>(
 ) -> Result<(usize, Written), TurnFault>
     ensures { SomeAnswer (S.contents stream.old) (S.contents stream.new) octets.now result }
 {
+    // Tested first: a write of no octets would look like a stream that takes none.
     if octets.is_empty() {
         return Ok((0, Written::All));
     }
     match stream.write(octets) {
+        // A stream that takes nothing and reports no error would be tried again for good.
         Ok(0) => Err(TurnFault::Stream),
         Ok(count) if count == octets.len() => Ok((count, Written::All)),
         // Only a full socket takes a part, and the poll reports when it takes more.

@@ -112,6 +112,7 @@ where
         (IngestMayWithin W.ahead H.service letter.now) result }
 {
     let _number = letter.number.get(); // the proof needs that it is within the limit
+    // Neither journal nor mark changes: until the letter is handled, no settle may cover it.
     let changes = resequencer::hold(alloc, letter)?;
     match apply_all::<H, K>(alloc, keep, changes) {
         Ok(()) => Ok(Ingested::Held),

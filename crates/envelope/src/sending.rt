@@ -45,6 +45,7 @@ fn send(
     ensures numbered { OnOk result (IsNumbered pair.now number) }
     ensures fault { IsOkUnless result EnvelopeFault.Memory }
 {
+    // On the stack: the numeral is copied into the frame, and needs no memory of its own.
     let mut digits = Buffer::new();
     let mut frame = Frame::new(alloc, Command::Send);
     push(&mut frame, "destination", receiver.queue())?;

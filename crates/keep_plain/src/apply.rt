@@ -32,6 +32,7 @@ fn make_slots<S: Drop, C>(
     ensures ready { OnOk result (IsReady maps.new change.now) }
 {
     match change {
+        // Rows of the journal have room already, and what only empties a slot needs none.
         Change::Journal(_, _) | Change::NotHeld(_, _) => Ok(()),
         Change::State(entity, _) => make_slot(&mut maps.rows, entity.copy(alloc)?),
         Change::Sent(letter) => {
@@ -128,6 +129,7 @@ fn set_row<S: Drop, C: Drop>(
     ensures keeps { KeepsAll maps.old maps.new }
     ensures journal { maps.new.journal ≡ maps.old.journal }
 {
+    // Asked first: the row is moved into its slot.
     let is_gone = row.is_none();
     set_slot(&mut maps.rows, &entity, row);
     is_gone.then_some(entity)
@@ -257,6 +259,7 @@ fn sweep_all<S: Drop, C: Drop>(maps: &mut Maps<S, C>, changes: Vec<Change<S, C>>
 
 /// How many of these changes may leave empty slots.
 fn count_emptying<S, C>(changes: &[Change<S, C>]) -> usize {
+    // As `make_change` returns them: for one that isn't counted here the list may have no room.
     changes
         .iter()
         .filter(|change| {

@@ -102,6 +102,7 @@ impl Arrivals {
         ensures held { self.new.held ≡ self.old.held }
         ensures keeps { KeepsArrivals self.old self.new }
     {
+        // By the new mark: whether the pair was drainable before says nothing of its next letter now.
         let is_drainable = has_next(&self.held, place);
         set_slot(&mut self.handled, &place.pair, Some(place.number));
         set_slot(&mut self.drainable, &place.pair, is_drainable.then_some(()));

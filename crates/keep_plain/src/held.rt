@@ -22,6 +22,7 @@ pub fn find_message(
 ) -> Result<Option<Message>, AllocError>
     ensures { IfOk result (λ m. m ≡ messages_in held.now pair.now number) }
 {
+    // A map is searched by a whole key, so the pair is copied for it.
     let place = LetterPlace {
         pair: pair.copy(alloc)?,
         number,

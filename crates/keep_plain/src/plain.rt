@@ -141,6 +141,7 @@ impl<H: Handler> Keep for PlainKeep<H> {
     }
 
     fn reopen(&mut self, _alloc: Global) -> Result<(), KeepFault> {
+        // No call fails here, so there is nothing to find again.
         Ok(())
     }
 

@@ -54,6 +54,7 @@ pub fn empty_slot<K: Ord + Drop, V: Drop>(map: &mut BTreeMap<K, Option<V>>, key:
 pub fn sweep_slot<K: Ord + Drop, V: Drop>(map: &mut BTreeMap<K, Option<V>>, key: &K)
     ensures same { SameAt K.cmp map.old map.new }
 {
+    // Tested now: a later change of the same transaction may have filled the slot again.
     if let Some(None) = map.get(key) {
         map.remove(key);
     }

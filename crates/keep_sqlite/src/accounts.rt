@@ -74,6 +74,7 @@ fn account_from(head: &Row, lines: Lines) -> Result<Account, Error>
     let held: u64 = head.get(2)?;
     match Account::from_parts(limit, billed, held, lines) {
         Some(account) => Ok(account),
+        // No check of the tables compares the numbers with the lines, so it is done here, at each read.
         None => Err(Error::InvalidQuery),
     }
 }
@@ -279,6 +280,7 @@ fn step_account<S: Alter>(
         → KeepsCommit (state S.Store tx.old.conn.now) (state S.Store tx.new.conn.now) }
     ensures survives { Survives (state S.Store tx.old.conn.now) (state S.Store tx.new.conn.now) (λ _. ⊥) }
 {
+    // In any case: the state before isn't at hand, so nothing says whether the numbers differ.
     put_head(tx, key, account)?;
     match sender_line(account.lines(), sender) {
         Some(line) => {

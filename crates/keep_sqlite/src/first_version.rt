@@ -18,6 +18,7 @@ fn first_stocks_of(alloc: Global, row: &Row) -> Result<Vec<Partner>, Error>
 {
     let stock: String = row.get(1)?;
     let number: u64 = row.get(2)?;
+    // A row had both partners: column 6 is the stock's phase, column 7 the account's.
     let phase: String = row.get(6)?;
     let mut stocks = Vec::new(alloc);
     // An order had one line in version 1.

@@ -32,6 +32,7 @@ pub fn found<H: Filed, S: Alter>(conn: &mut Connection<S>) -> Result<(), Error>
     match create_tables(&mut tx, H::service()) {
         Ok(_) => tx.commit(),
         Err(error) => {
+            // Tables of which some are missing would be refused as a wrong file at the next opening.
             tx.rollback();
             Err(error)
         }

@@ -56,6 +56,7 @@ fn input_at<C: CommandBody>(alloc: Global, row: &Row) -> Result<Input<C>, Error>
 fn row_at<H: Filed>(alloc: Global, row: &Row) -> Result<JournalRow<H::Command>, Error>
     ensures { IfOk result (λ entry. entry ≡ shown_row H.filing row.now) }
 {
+    // Column 0, the position, isn't read: an opening has tested that rows are at 1, 2, .., and they come in order.
     let text: String = row.get(1)?;
     let Some(entity) = read_entity(alloc, text.as_str())? else {
         return Err(Error::InvalidQuery);
@@ -83,6 +84,7 @@ pub fn bound_count(count: u64) -> Result<i64, Error>
 {
     match i64::try_from(count) {
         Ok(bound) => Ok(bound),
+        // SQL has no greater number. A wrapped one would be negative, and a negative LIMIT is none.
         Err(_) => Err(Error::InvalidQuery),
     }
 }

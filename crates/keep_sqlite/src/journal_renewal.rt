@@ -73,6 +73,7 @@ fn count_journal<S: Alter>(tx: &mut Transaction<'_, S>) -> Result<u64, Error>
         → KeepsCommit (state S.Store tx.old.conn.now) (state S.Store tx.new.conn.now) }
     ensures survives { Survives (state S.Store tx.old.conn.now) (state S.Store tx.new.conn.now) (λ _. ⊥) }
 {
+    // As at an opening: a journal that would be refused there isn't migrated.
     let count = count_all(tx)?;
     let last = bound_count(count)?;
     // A count as great as this tells no more than that there are so many.
@@ -96,6 +97,7 @@ fn body_of_command(alloc: Global, row: &Row) -> Result<Option<String>, Error>
         return Err(Error::InvalidQuery);
     };
     let body = command.body(alloc)?;
+    // A cancellation had today's text, so its row needs no write.
     if body.as_str() == text.as_str() {
         Ok(None)
     } else {
@@ -152,6 +154,7 @@ fn renew_row<S: Alter>(
     ensures survives { Survives (state S.Store tx.old.conn.now) (state S.Store tx.new.conn.now) (λ _. ⊥) }
 {
     let at = bound_count(position)?;
+    // The first row from this position on is the one at it, since positions have no gap.
     let rows = read_journal_inside(tx, at, 1);
     match body_of_one(alloc, rows)? {
         Some(body) => {

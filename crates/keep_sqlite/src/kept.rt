@@ -85,6 +85,7 @@ impl<H: Filed, S: Alter> SqliteKeep<H, S> {
         ensures same { self.new.conn ≡ self.old.conn }
     {
         self.is_usable = false;
+        // Saturating: callers compare counts, and one that wrapped around would hide failures.
         self.failures = self.failures.saturating_add(1);
         Err(KeepFault::Failed)
     }
@@ -110,6 +111,7 @@ impl<H: Filed, S: Alter> SqliteKeep<H, S> {
                 Ok(value)
             }
             Err(Error::SqliteFailure(ErrorCode::OutOfMemory)) => {
+                // No memory says nothing of the connection: the statement may have shut it, and a usable store is open.
                 if look(&mut self.conn).is_err() {
                     return self.fail();
                 }
@@ -124,6 +126,7 @@ impl<H: Filed, S: Alter> SqliteKeep<H, S> {
     fn known_state(&self, alloc: Global, entity: &Entity) -> Result<Option<H::State>, AllocError>
         ensures { IfOk result (λ found. IfSome found (λ s. known_of self.now.states entity.now ≡ Some s)) }
     {
+        // Copied: the caller changes its state before it writes it, and what is known must stay that of the row.
         match self.states.peek(entity) {
             Some(state) => Ok(Some(H::copy_state(alloc, state)?)),
             None => Ok(None),
@@ -182,6 +185,7 @@ impl<H: Filed, S: Alter> SqliteKeep<H, S> {
                 self.is_usable = true;
                 Ok(())
             }
+            // The count stays: while the connection is open, a transaction that failed has left no row.
             Err(error) => self.end(Err(error)),
         }
     }
@@ -334,6 +338,8 @@ impl<H: Filed, S: Alter> Keep for SqliteKeep<H, S> {
             → IsShut (state S.Store self.old.conn) (state S.Store self.new.conn) }
     {
         self.is_usable = false;
+        // Nothing is opened again: a connection that was shut stays so. `keep_files` closes files and opens them again.
+        // Count and states stay too: while the connection is open, no rows but those of the last commit are in it.
         match look(&mut self.conn) {
             Ok(()) => {
                 self.is_usable = true;
@@ -369,6 +375,7 @@ impl<H: Filed, S: Alter + Drop> SqliteKeep<H, S> {
             Ok(conn) => conn,
             Err((error, store)) => return Err((opening_fault(&error), store)),
         };
+        // Each error returns the store: its files are what the caller tries again with.
         let Ok(states) = LastStates::new(alloc) else {
             return Err((KeepFault::Memory, conn.into_store()));
         };
@@ -377,6 +384,7 @@ impl<H: Filed, S: Alter + Drop> SqliteKeep<H, S> {
                 conn,
                 states,
                 count,
+                // Those of earlier openings are the caller's to put back, by `with_failures`.
                 failures: 0,
                 is_usable: true,
                 service: PhantomData,
@@ -469,6 +477,7 @@ impl<H: Filed, S: Alter> SqliteKeep<H, S> {
     {
         let SqliteKeep {
             conn,
+            // Whoever has the connection may write rows that these states know nothing of.
             states: _states,
             count: _,
             failures,

@@ -12,6 +12,7 @@ pub fn sender_line<'a>(lines: &'a Lines, sender: Option<&Entity>) -> Option<&'a 
 {
     match sender {
         Some(order) => lines.find(order),
+        // A command changes numbers and no line.
         None => None,
     }
 }

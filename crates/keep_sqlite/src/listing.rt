@@ -57,6 +57,7 @@ fn number_at(row: &Row, at: usize) -> Result<Number, Error>
 {
     match Number::new(row.get(at)?) {
         Some(number) => Ok(number),
+        // The tables have no check of it: 0, or more than 2^40, was written by others.
         None => Err(Error::InvalidQuery),
     }
 }

@@ -48,6 +48,7 @@ fn is_first<S: Alter>(
         → (state S.Store conn.old).may_leave db }
     ensures clean { doubt (state S.Store conn.old).is_clean ≤ doubt (state S.Store conn.new).is_clean }
 {
+    // The tables first: a query of an `about` that isn't there would fail, and say nothing of the version.
     if !has_first_tables(alloc, &*conn, service)? {
         return Ok(false);
     }
@@ -118,14 +119,17 @@ fn migrate_tables<H: Filed, S: Alter, P: Progress>(
     ensures clean { doubt (state S.Store conn.old).is_clean ≤ doubt (state S.Store conn.new).is_clean }
 {
     let today = Migrated { from: 2, to: 2 };
+    // Left empty: whoever opens the file makes today's tables in it.
     if has_no_tables(&*conn) {
         return Ok(Some(today));
     }
+    // Before `examine`, to which a file of version 1 is a wrong one.
     if is_first(alloc, conn, H::service())? {
         renew_all::<H, S, P>(alloc, conn, progress)?;
         return Ok(Some(Migrated { from: 1, to: 2 }));
     }
     match examine::<H, S>(alloc, conn)? {
+        // Examined, though nothing is written: what an opening would refuse isn't reported as up to date.
         Some(_count) => Ok(Some(today)),
         None => Ok(None),
     }

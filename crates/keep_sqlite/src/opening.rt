@@ -29,6 +29,8 @@ pub fn opening_fault(error: &Error) -> KeepFault
         Error::SqliteFailure(ErrorCode::OutOfMemory) => KeepFault::Memory,
         // The kit says this of a file with a dangling reference too.
         Error::SqliteFailure(ErrorCode::NotADatabase) => KeepFault::WrongFile,
+        // So also where a row is one that no call here writes: by its tables the file is ours, so it is damaged and not
+        // another's.
         _ => KeepFault::Failed,
     }
 }
@@ -121,6 +123,8 @@ fn count_journal<S: Alter>(conn: &mut Connection<S>) -> Result<u64, Error>
         → (state S.Store conn.old).may_leave db }
     ensures clean { doubt (state S.Store conn.old).is_clean ≤ doubt (state S.Store conn.new).is_clean }
 {
+    // Tested, since two sources have to agree: SQLite numbers a new row by the last position, and an endpoint answers
+    // with the count plus one.
     let count = count_all(conn)?;
     let last = bound_count(count)?;
     // A count as great as this tells no more than that there are so many.
@@ -162,6 +166,7 @@ pub fn examine<H: Filed, S: Alter>(
     if !has_tables(alloc, &*conn, service)? {
         return Ok(None);
     }
+    // The tables alone don't say the version: those of a warehouse and of billing are the same in both.
     if !is_of(conn, service)? {
         return Ok(None);
     }

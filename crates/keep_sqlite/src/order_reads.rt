@@ -71,6 +71,7 @@ fn order_of(alloc: Global, heads: &[Row], lines: &[Row]) -> Result<Option<Order>
     ensures { IfOk result
         (λ order. MatchOption order (heads.now ≡ []) (λ o. shown_order heads.now lines.now ≡ Some o)) }
 {
+    // The head decides: lines refer to it, so without a head there are none.
     let Some(head) = heads.first() else {
         return Ok(None);
     };
@@ -99,6 +100,7 @@ pub fn find_order<S: Alter>(
 {
     // Called for what its contract says: the rows are as the schema demands.
     let _ = conn.schema();
+    // Two queries see the same rows: the connection is borrowed, so no write comes between them.
     let heads = read_order_head(conn, key)?;
     let lines = read_order_lines(conn, key)?;
     order_of(alloc, heads.as_slice(), lines.as_slice())

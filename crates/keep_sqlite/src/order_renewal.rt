@@ -100,10 +100,12 @@ pub fn renew_orders<S: Alter, P: Progress>(
         → KeepsCommit (state S.Store tx.old.conn.now) (state S.Store tx.new.conn.now) }
     ensures survives { Survives (state S.Store tx.old.conn.now) (state S.Store tx.new.conn.now) (λ _. ⊥) }
 {
+    // All orders are in memory at once, since their table is gone when the new ones are filled.
     let rows = read_first_orders_inside(tx)?;
     let keyed = orders_of(alloc, rows.as_slice())?;
     // Dropped and not emptied: an empty `orders` would give every statement a second shape of a file.
     replace_tables(tx)?;
+    // The journal first: each later write relies on its count, which is tested here.
     let count = renew_journal(alloc, tx, progress)?;
     put_orders(tx, keyed.as_slice(), count, progress)?;
     Ok(())

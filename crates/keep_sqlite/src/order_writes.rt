@@ -115,6 +115,7 @@ fn add_lines<S: Alter>(
     ensures survives { Survives (state S.Store tx.old.conn.now) (state S.Store tx.new.conn.now) (λ _. ⊥) }
 {
     for index in 0..count {
+        // Always `Some`, as callers pass fewer than there are. An error needs no proof of that, `unreachable` would.
         let Some(stock) = order.partner(index) else {
             return Err(Error::InvalidQuery);
         };
@@ -146,6 +147,7 @@ pub fn put_order<S: Alter>(
         → KeepsCommit (state S.Store tx.old.conn.now) (state S.Store tx.new.conn.now) }
     ensures survives { Survives (state S.Store tx.old.conn.now) (state S.Store tx.new.conn.now) (λ _. ⊥) }
 {
+    // Its contract also says what the partners are, which the rows below rely on.
     let status = order.status();
     // An order has two partners at least.
     let stocks = order.partner_count().saturating_sub(1);

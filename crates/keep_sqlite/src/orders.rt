@@ -40,6 +40,7 @@ impl Filed for Orders {
     ) -> Result<Option<Option<Order>>, Error> {
         match entity.kind() {
             Kind::Order => match find_order(alloc, conn, entity.key(), count)? {
+                // A row, and in it an order that was placed: one that wasn't has no row.
                 Some(order) => Ok(Some(Some(order))),
                 None => Ok(None),
             },

@@ -28,6 +28,7 @@ impl<'a> TerminalProgress<'a> {
     pub fn new(rt: &'a HostRuntime) -> TerminalProgress<'a> {
         TerminalProgress {
             rt,
+            // Asked once. These lines are for somebody who waits: a log has no use for them.
             is_terminal: rt.stderr().is_terminal(),
             rows: 0,
         }
@@ -36,6 +37,7 @@ impl<'a> TerminalProgress<'a> {
 
 impl<'a> Progress for TerminalProgress<'a> {
     fn step(&mut self) {
+        // Saturating: a count that is only shown must not stop a migration.
         self.rows = self.rows.saturating_add(1);
         if self.is_terminal && self.rows % ROWS == 0 {
             // A terminal that is gone is no reason to stop.

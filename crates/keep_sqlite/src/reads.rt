@@ -75,6 +75,7 @@ pub fn mark_in(rows: &[Row], at: usize) -> Result<u64, Error>
     ensures { IfOk result (IsFirstMark at rows.now) }
 {
     match rows.first() {
+        // No row is a mark of 0: a pair has none before its first letter.
         None => Ok(0),
         Some(row) => row.get(at),
     }
@@ -170,6 +171,7 @@ pub fn message_at(alloc: Global, row: &Row, at: usize) -> Result<Message, Error>
     let body: String = row.get(at)?;
     match read_message(alloc, body.as_str())? {
         Some(message) => Ok(message),
+        // Reported and not skipped: a letter that is left out of an answer would be lost silently.
         None => Err(Error::InvalidQuery),
     }
 }

@@ -19,6 +19,7 @@ pub fn remember_row<H: Filed>(
     ensures { (rows : Entity → Option H.State) → rows entity.now ≡ row.now → Knows (known_of states.old) rows
         → Knows (known_of states.new) rows }
 {
+    // That there is no row isn't remembered: what is known of an entity is always a state.
     if let Some(state) = row {
         // A copy that finds no memory is left out: the next read takes the row from the file.
         if let Ok(state) = H::copy_state(alloc, state) {

@@ -75,6 +75,7 @@ fn stock_from(head: &Row, lines: Lines) -> Result<Stock, Error>
     let received: u64 = head.get(3)?;
     match Stock::from_parts(on_hand, held, shipped, received, lines) {
         Some(stock) => Ok(stock),
+        // No check of the tables compares the numbers with the lines, so it is done here, at each read.
         None => Err(Error::InvalidQuery),
     }
 }
@@ -277,6 +278,7 @@ fn step_stock<S: Alter>(
         → KeepsCommit (state S.Store tx.old.conn.now) (state S.Store tx.new.conn.now) }
     ensures survives { Survives (state S.Store tx.old.conn.now) (state S.Store tx.new.conn.now) (λ _. ⊥) }
 {
+    // In any case: the state before isn't at hand, so nothing says whether the numbers differ.
     put_head(tx, key, stock)?;
     match sender_line(stock.lines(), sender) {
         Some(line) => {

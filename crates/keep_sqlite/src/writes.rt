@@ -155,6 +155,7 @@ fn cell_in(rows: &[Row], at: usize) -> Result<i64, Error>
     ensures fits { IfOk result (FitsSigned w64) }
 {
     match rows.first() {
+        // A pair that sent nothing has no row, and a mark of 0.
         None => Ok(0),
         Some(row) => row.get(at),
     }
@@ -462,6 +463,7 @@ fn write_change<H: Filed, S: Alter>(
     ensures survives { Survives (state S.Store tx.old.conn.now) (state S.Store tx.new.conn.now) (λ _. ⊥) }
 {
     match change {
+        // The position isn't bound, as SQLite gives the next one: that it is the next is a premise of the store law.
         Change::Journal(_, row) => write_row::<H, S>(alloc, tx, row, count),
         Change::State(entity, row) => H::write_state::<S>(alloc, tx, entity, row, count),
         Change::Sent(letter) => write_sent::<H, S>(alloc, tx, letter, count),
@@ -482,6 +484,7 @@ fn sender_behind<S, C>(behind: &[Change<S, C>]) -> Option<Option<&Entity>>
             Input::FromSeat(_, _) => Some(None),
             Input::FromEntity(sender, _, _) => Some(Some(sender)),
         },
+        // No step, then: the state is written as a whole, which is right for any change.
         _ => None,
     }
 }
@@ -583,6 +586,8 @@ fn write_one<H: Filed, S: Alter>(
     // Forgotten before the row is written: where the statement fails, no state is known that the file hasn't got.
     let is_known = forget(states, change);
     let count = write_known::<H, S>(alloc, tx, change, step, is_known, count)?;
+    // Before the commit: a later change of this transaction may be of the same entity. If the commit fails, all is
+    // forgotten.
     note::<H>(alloc, states, change);
     Ok(count)
 }
@@ -630,6 +635,7 @@ fn stage<H: Filed, S: Alter>(
         → OnOk result (Knows (known_of states.new) (H.filing.entity (state S.Store tx.new.conn.now).now.trees)) }
 {
     let mut count = count;
+    // By place: whether a state is a step is read off the change after it.
     for place in 0..changes.len() {
         let step = step_at(changes, place, are_steps);
         count = write_one::<H, S>(alloc, tx, states, &changes[place], step, count)?;

@@ -130,6 +130,7 @@ impl Reacting for Orders {
         match message {
             Message::Tentative => order.tentative(alloc, sender, outs),
             Message::Refused => order.refused(alloc, sender, outs),
+            // No partner sends these. A message is never refused, so they change nothing.
             Message::Request(_) | Message::Confirm | Message::Cancel => Ok(()),
         }
     }
@@ -183,6 +184,7 @@ fn cancel(alloc: Global, state: &mut Option<Order>, outs: &mut Outs) -> Result<(
 {
     match state {
         Some(order) if order.is_open() => Ok(order.cancel(alloc, outs)?),
+        // A confirmed order too: its partners were told to take what they hold, and nothing undoes that.
         _ => Err(HandlerFault::Business(Refusal::NotOpen)),
     }
 }

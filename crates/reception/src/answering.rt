@@ -116,6 +116,7 @@ fn write_letter(
             Ok(Taken::Repeated(mark.get()))
         }
         Ok(Ingested::Held) => {
+            // Acknowledged, since it is stored, but not settled: its sender keeps it until it is handled.
             acknowledge(alloc, client, message)?;
             Ok(Taken::Held)
         }
@@ -172,6 +173,7 @@ pub fn answer_letter(
     };
     match write_letter(alloc, client, &message, letter, answer) {
         Ok(taken) => Ok(taken),
+        // Where the reply found no memory, what the endpoint did stays: a duplicate of the letter is answered for it.
         Err(fault) => Err(Untaken::of(fault, message)),
     }
 }

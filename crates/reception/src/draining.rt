@@ -69,6 +69,7 @@ where
     let text = make_settle(alloc, client, &pair, number)?;
     match endpoint.drain_held(alloc, &pair) {
         Ok(Some(_)) => {
+            // In no transaction: the letter's MESSAGE was acknowledged when the letter was held.
             write(client, &text);
             let number = number.get();
             Ok(Some(Drained { pair, number }))

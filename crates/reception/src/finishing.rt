@@ -136,6 +136,7 @@ impl PreparedLetter {
         match self.answer(alloc, client, answer) {
             Ok(taken) => Ok(taken),
             Err(fault) => {
+                // Taken apart to move the frame out: a copy would need memory, which may be what is wanting.
                 let PreparedLetter {
                     message,
                     letter: _letter,

@@ -29,6 +29,7 @@ fn add(text: &mut Vec<u8>, frame: &Frame<MAX_BODY>) -> Result<(), AllocError>
     ensures { (frames : List Content) → IsTextOf frames text.old.items
         → OnOk result (IsTextOf (frames ++ frame.now ∷ []) text.new.items) }
 {
+    // Called for what its contract says: every frame has a text, so only memory can be wanting.
     frame.holds();
     match encode(frame, text) {
         Ok(()) => Ok(()),

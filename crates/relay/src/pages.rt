@@ -250,10 +250,12 @@ impl Relay {
                 return Err(fault);
             }
         };
+        // The limit may leave rows of this page: the cursor stops before the first of them.
         if sent == limit {
             self.go_behind_sent(rows);
             return Ok((sent, false));
         }
+        // A page that isn't full was the last one, which spares a read that finds nothing.
         if rows.len() < page {
             self.go_behind(rows);
             return Ok((sent, false));

@@ -115,6 +115,7 @@ impl Relay {
         // A mark that found no place after the SEND would have the letter sent again, so its place is made before.
         prepare(self.alloc, &mut self.marks, &letter.pair)?;
         client.send_with_receipt(frame, letter.number.get())?;
+        // Last: a letter whose SEND was refused has to stay due.
         set(&mut self.marks, &letter.pair, letter.number);
         Ok(())
     }

@@ -106,6 +106,7 @@ impl Backlog {
     /// the outbox is walked over for it.
     pub(crate) fn end_news(&mut self, rows: u64, settles: u64, is_all: bool) {
         if !is_all {
+            // The rows stay as they were, so the kind is still due; without `whole` it gets a walk, and no news.
             self.whole = None;
             return;
         }
@@ -144,6 +145,7 @@ impl Backlog {
 
     /// A page couldn't be read.
     pub(crate) fn end_refused(&mut self) {
+        // The walk was taken out and isn't put back: the next one begins at the first letter.
         self.left = Left::More;
     }
 
@@ -151,6 +153,7 @@ impl Backlog {
     /// room as settles were taken since the last one: how many letters are on their way then is answered beside.
     pub(crate) fn next_walk(&mut self, number: u8) -> (Walk, Option<usize>) {
         let fresh = Walk::new(self.kind, number, self.rows, self.changes, self.settles);
+        // After a change, or on another connection, what the walk counted as sent may have been lost.
         match self.last.take() {
             Some(mut walk) if walk.number == number && walk.changes == self.changes => {
                 // Asked before make_room, which lowers the count that it looks at.
@@ -206,6 +209,7 @@ impl Backlogs {
 
     /// Since when new rows can be looked at for one of them at least.
     pub(crate) fn moment(&self, rows: u64, changes: u64) -> Option<Moment> {
+        // One moment for all: a kind that was whole at another one gets its news at a later look.
         match self.order.moment(rows, changes) {
             Some(moment) => Some(moment),
             None => match self.stock.moment(rows, changes) {

@@ -29,6 +29,7 @@ where
 {
     /// The tokens.
     pub tokens: Tokens<H, K>,
+    // Two fields and no array: a generic caller would owe that an array of connections fits in memory.
     /// The first connection.
     pub zero: Option<Conn<L>>,
     /// The second one.

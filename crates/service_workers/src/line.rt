@@ -226,6 +226,7 @@ where
         ensures there { self.new.is_there ≡ false }
         ensures link { self.new.link ≡ self.old.link }
     {
+        // Not twice: the second time there is no connection, and `was` would lose what the first one noted.
         if self.conn.is_some() {
             self.was = Snapshot::of(&self.conn);
             self.conn = None;
@@ -255,6 +256,7 @@ where
         ensures spoken { N.sound → HasSpokenIf L.put_gives L.take_gives K.seen H.service (shown_witness result.1)
             result.0.value }
     {
+        // A second witness: the place keeps one of its own for the next connection.
         let witness = self.witness.again(shared);
         let is_there = self.conn.is_some();
         if is_there {
@@ -301,6 +303,7 @@ where
             witness,
             of: _,
         } = self;
+        // What was written has to be true of what the Hand sees later: so the Hand learns what allowed it.
         hand.learn(shared, witness);
         Ended { conn, was }
     }

@@ -84,6 +84,8 @@ fn finish_unread(
     ensures told { NeedsNoAnswer result ⊎ IsItsAnswer message answer result }
     ensures replied { (x : Progress) → CarriedBy message answer x → RepliedBy message result x }
 {
+    // An allocation may have failed at the first reading, and not at this one. Then the endpoint wasn't asked: the
+    // connection is cut, and the MESSAGE redelivered.
     match prepare(alloc, client, kind, message) {
         Ok(Prepared::Letter(letter)) => match answer {
             Answer::Letter(answer) => match letter.finish(alloc, client, answer) {

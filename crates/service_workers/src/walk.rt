@@ -186,6 +186,7 @@ impl Walk {
         } }
     {
         let freed = settles.saturating_sub(self.seen) as usize;
+        // Saturating: among the settles may be duplicates, so they may be more than what was counted.
         self.sent = self.sent.saturating_sub(freed);
         self.total = self.total.saturating_sub(freed);
         self.seen = settles;

@@ -84,6 +84,7 @@ where
         ensures turn { Turns K.seen H.service (seat_number seat.old) (told_seat seat.old) (told_seat seat.new)
             (λ d e. Views K.seen d e H.service.kind entity.now result) (fault_in result) }
     {
+        // A read needs the lock like a write: it may meet the store's failure, which ends the use for all.
         let mut boxed = self.lock.take(rt, &mut seat.key);
         let row = boxed.endpoint.view(alloc, entity);
         let told = tells(&row);
@@ -193,6 +194,7 @@ where
         let mark = boxed.endpoint.settle(alloc, pair, number);
         let told = tells(&mark);
         self.give(rt, &mut hand.key, boxed, told);
+        // The mark isn't raised: a settle adds no row to the journal.
         mark
     }
 
@@ -216,6 +218,7 @@ where
             (λ d e. Groups K.seen d e H.service envelopes.now result) (fault_in result) }
         ensures raised { hand_raised hand.new ≡ raised_after (hand_raised hand.old) (rows_grouped result) }
     {
+        // One hold for the whole group, as it is one transaction: no other token sees a part of it.
         let mut boxed = self.lock.take(rt, &mut hand.key);
         let grouped = take_group(alloc, &mut boxed.endpoint, envelopes);
         let told = tells(&grouped);
@@ -291,6 +294,7 @@ where
             (λ d e. Reads K.seen d e (λ t letters. AreFirst t.unsettled after.now limit letters.items) (end_of result))
             (fault_in result) }
     {
+        // One hold for each page: a walk over a long outbox keeps a command waiting for one read at most.
         let mut boxed = self.lock.take(rt, &mut scout.key);
         let letters = boxed.endpoint.unsettled(alloc, after, limit);
         let told = tells(&letters);

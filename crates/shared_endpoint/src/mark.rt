@@ -23,6 +23,7 @@ pub(crate) fn row_committed(answer: &Result<Committed, EndFault>) -> Option<u64>
     ensures { result ≡ row_committed answer.now }
 {
     match answer {
+        // A row's position is the journal's length once the row is there.
         Ok(committed) => Some(committed.pos),
         Err(_) => None,
     }
@@ -34,6 +35,7 @@ pub(crate) fn row_handled(answer: &Result<Ingested, EndFault>) -> Option<u64>
 {
     match answer {
         Ok(Ingested::Handled(pos)) => Some(*pos),
+        // A letter that is held has no row yet: `drain_held` adds it.
         Ok(Ingested::Repeated(_) | Ingested::Held) | Err(_) => None,
     }
 }
@@ -73,6 +75,7 @@ where
         ensures { AreRowsDrained K.seen self.now answer.now result }
     {
         match answer {
+            // An endpoint that has just answered so is usable, and then its length can't fail.
             Ok(Some(_)) => self.endpoint.length().ok(),
             Ok(None) | Err(_) => None,
         }
@@ -92,6 +95,7 @@ where
         ensures mark { IsMarkOf self.now mark.new }
         ensures raised { raised_by mark.new ≡ raised_after (raised_by mark.old) rows }
     {
+        // Threads come here after they released the lock, in any order: the greatest of all stays.
         if let Some(rows) = rows {
             self.marks.raise(mark, 0, rows);
         }

@@ -80,6 +80,7 @@ where
         ensures key { IsKeyOf self.now.lock key.new }
         ensures gave { knows key.new ≡ without (map (given told endpoint) (knows key.old).own) (knows key.old) }
     {
+        // A failed call shows its token nothing new: what that has seen before holds of whatever is left.
         if told {
             self.lock.give_seen(rt, key, endpoint);
         } else {
@@ -163,6 +164,7 @@ where
         ensures each { All (IsNewMarkOf self.now) marks.new.items }
         ensures seats { AreSeatsOf self.now result × AreNewSeats endpoint.now result }
     {
+        // One after another: the lock numbers tokens as they are made, and a seat's number is its token's.
         [
             self.seat(key, endpoint, marks, 0),
             self.seat(key, endpoint, marks, 1),
@@ -206,10 +208,12 @@ where
                 // All that may fail is done: no token was made before.
                 let shared = Shared { lock, marks };
                 let seats = shared.seats(&mut key, &boxed, &mut list);
+                // After the seats: contracts know these two tokens by their numbers (`hand_number`, `scout_number`).
                 let hand = shared.token(&mut key, &boxed, 16);
                 let scout = shared.token(&mut key, &boxed, 17);
                 // Unseen: no token has called the endpoint yet.
                 shared.lock.give_unseen(rt, &mut key, boxed);
+                // The key that makes tokens ends with this call, so that none is ever added.
                 let hand = Hand {
                     key: hand,
                     mark: shared.mark_of(&mut list, 16),

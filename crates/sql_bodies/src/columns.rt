@@ -48,6 +48,7 @@ fn command_from<C: CommandBody>(
 ) -> Result<Option<Input<C>>, AllocError>
     ensures { IfOk result (λ found. found ≡ command_from C.read seat body.now) }
 {
+    // The table has no check of seats: a column may hold any number.
     let Ok(seat) = u8::try_from(seat) else {
         return Ok(None);
     };

@@ -28,6 +28,7 @@ fn first_order_value(alloc: Global, command: &OrderCommand) -> Result<Value, All
                 "op": "place",
                 "stock": line.stock.as_str()
             }),
+            // No command is read from `null`, so such a placing is no body's of version 1.
             _ => Ok(Value::Null),
         },
         OrderCommand::CancelOrder => json!(in alloc; {"op": "cancel_order"}),
@@ -51,6 +52,7 @@ fn first_place_of(alloc: Global, value: &Value) -> Result<Option<OrderCommand>, 
     let Some(account) = key_at(alloc, value, "account")? else {
         return Ok(None);
     };
+    // The one line had its members beside the account: the object itself is read as a line.
     let Some(line) = line_of(alloc, value)? else {
         return Ok(None);
     };

@@ -77,6 +77,7 @@ fn lines_of(alloc: Global, values: &[Value]) -> Result<Option<Items>, AllocError
         };
         lines.push(line)?;
     }
+    // Any number of lines: a bad list is for the handler to refuse.
     Ok(Some(Items::from_vec(lines)))
 }
 

@@ -35,6 +35,7 @@ pub fn put_out_marks<S: Alter>(
         → KeepsCommit (state S.Store tx.old.conn.now) (state S.Store tx.new.conn.now) }
     ensures survives { Survives (state S.Store tx.old.conn.now) (state S.Store tx.new.conn.now) (λ _. ⊥) }
 {
+    // A check sees one row: with both marks in it, the table's own refuses a settled one above the sent one.
     write(
         tx,
         "INSERT OR REPLACE INTO out_marks (sender, receiver, sent, settled) \

@@ -104,6 +104,7 @@ fn create_stock_lines<S: Alter>(tx: &mut Transaction<'_, S>) -> Result<usize, Er
         (state S.Store tx.old.conn.now) (state S.Store tx.new.conn.now)) }
     ensures on { IsUnderWay (state S.Store tx.old.conn.now) (state S.Store tx.new.conn.now) }
 {
+    // An order has one line at a stock, by which a redelivered request is known: the key keeps a second one out.
     write(
         tx,
         "CREATE TABLE stock_lines (stock TEXT NOT NULL REFERENCES stocks (key), order_key TEXT NOT NULL, \

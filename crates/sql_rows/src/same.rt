@@ -76,6 +76,7 @@ impl Same for Op {
             (Op::Binary(op, left, right), Op::Binary(other_op, other_left, other_right)) => {
                 op == other_op && left == other_left && right == other_right
             }
+            // Our checks need no other operation. Others count as different: at worst a file is refused.
             _ => false,
         }
     }

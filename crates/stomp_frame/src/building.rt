@@ -14,6 +14,7 @@ pub fn refused_behind(command: Command, count: usize, name: &str, value: &str) -
 {
     // `content-length` is for the encoder alone, which writes it of the body that is there: one that a frame carried
     // could contradict its body.
+    // In this order a header's own fault comes first, however many headers are before it.
     if is_bad(command, name, value) || name == "content-length" {
         Some(FrameFault::BadLine)
     } else if is_long(command, name, value) {

@@ -97,11 +97,14 @@ impl<const BODY: usize> Decoder<BODY> {
                     body,
                     left,
                 } = found;
+                // By what is left and not by what was read: so the gap before the frame goes too.
                 self.octets.advance(self.octets.len() - left);
                 self.progress = Progress::Line(0);
+                // Memory isn't looked at here: the call that finds no more frames does so once for all of them.
                 Ok(Some(Frame::of(self.alloc, command, headers, body)))
             }
             Ok(None) => {
+                // The gap goes now, so that the EOLs of an idle peer don't pile up.
                 self.octets.advance(self.octets.len() - len);
                 self.settle(begins);
                 Ok(None)

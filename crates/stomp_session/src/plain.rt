@@ -68,6 +68,7 @@ fn push_line(out: &mut Vec<u8>, header: &Header) -> Result<(), AllocError>
     ensures ok { OnOk result (out.new.items ≡ out.old.items ++ with_lf (line_of Message header.now)) }
     ensures err { OnErr result (Extends out.old.items out.new.items) }
 {
+    // By its parts: the header's own text, one piece in memory, isn't seen outside of `stomp_frame`.
     out.extend_from_slice(header.name().as_bytes())?;
     push_both(out, b":", header.value())?;
     out.push(b'\n')?;

@@ -56,6 +56,7 @@ impl Lines {
         ensures value { IfOk result (λ lines. lines.items ≡ self.now) }
         ensures sound { AreLinesSound self.now }
     {
+        // Copies: other states may share these lines, so none can be moved out.
         let mut lines = Vec::new(self.alloc);
         if let Some(root) = &self.root {
             line_tree::push_all(self.alloc, root.as_ref(), &mut lines)?;

@@ -61,6 +61,7 @@ fn is_as_is_by_16(text: &[u8]) -> bool
 pub fn is_as_is(text: &[u8]) -> bool
     ensures { result ≡ is_as_is text.now }
 {
+    // Lengths from 4 to 15 have no loop: two loads that may overlap hold the whole text.
     if text.len() >= 16 {
         is_as_is_by_16(text)
     } else if text.len() >= 8 {
