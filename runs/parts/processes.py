@@ -59,8 +59,8 @@ def without_time(line):
     if not timed:
         return line
     at = datetime.datetime.fromisoformat(timed[1]).replace(tzinfo=datetime.timezone.utc).timestamp()
-    # A second, since a system's clock may be set meanwhile.
-    if not BEGUN - 1 <= at <= time.time() + 1:
+    # A minute more, since a system's clock may be set meanwhile.
+    if not BEGUN - 60 <= at <= time.time() + 60:
         raise Wrong(f"a line of the log has another time than now: {line}")
     return timed[2]
 
