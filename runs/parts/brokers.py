@@ -1,7 +1,9 @@
 """Brokers for services: outbox-broker, RabbitMQ and ActiveMQ. Each is started on a free port of 127.0.0.1, with a configuration that is
 made in a folder of its own. It can be killed and started again over the same folder and port."""
+import contextlib
 import os
 import pathlib
+import random
 import shutil
 import socket
 import subprocess
@@ -24,7 +26,12 @@ class Fault(Exception):
 
 
 def free_ports(count):
-    held = [socket.create_server(("127.0.0.1", 0)) for _ in range(count)]
+    """Ports that nobody listens on, below those that the system gives to clients (32,768 and up on Linux): a service that retries while its
+    broker is away could be given the broker's own port, and would hold it."""
+    held = []
+    while len(held) < count:
+        with contextlib.suppress(OSError):
+            held.append(socket.create_server(("127.0.0.1", random.randrange(10_000, 30_000))))
     ports = [it.getsockname()[1] for it in held]
     for it in held:
         it.close()
