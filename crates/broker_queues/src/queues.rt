@@ -221,7 +221,7 @@ impl<const FULL: usize> Queues<FULL> {
     pub fn dispatch<S: Sink>(&mut self, sink: &mut S) -> Result<(), AllocError>
         ensures { Dispatches S.takes self.old sink.old self.new sink.new result }
     {
-        // Each delivery changes what is ready and who has credit, so the next deal is picked anew.
+        // Each delivery changes what is ready and who has credit, so the next deal is picked again.
         while let Some(pick) = self.parts.next_deal()? {
             self.parts.hand(pick, sink)?;
         }

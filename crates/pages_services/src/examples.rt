@@ -85,7 +85,7 @@ pub fn a_line_is_read_again(alloc: Global) -> Result<bool, AllocError> {
     Ok(is_same && line.as_str() == "7\\n" && read_number("07").is_none())
 }
 
-// A wire passes on only what it is told to carry: 2 octets of 5.
+// A wire passes on only what it is asked to carry: 2 octets of 5.
 pub fn what_was_put_is_taken(alloc: Global) -> Result<Vec<u8>, LinkFault> {
     let mut wire = MemoryWire::new(alloc);
     let _gone = pump_out(&mut wire.near, b"hello");
@@ -125,7 +125,7 @@ pub fn answers_reach_back_in_mode_client() -> bool {
     Mode::Client.reaches(2, 1) && !Mode::Individual.reaches(2, 1)
 }
 
-// A queue is kept only while it has messages or subscribers: names that clients make up leave nothing behind.
+// A queue is kept only while it has messages or subscribers: names that clients make up leave nothing.
 pub fn an_idle_destination_is_closed(alloc: Global) -> Result<bool, QueueFault> {
     let name = Text::new(String::from_str(alloc, "/queue/a")?);
     let mut destinations = Destinations::new(alloc);

@@ -8,7 +8,7 @@ const INTRODUCTION: &str = "\
 It opens two connections to the broker, prints `connected N`, how many are open then, and answers
 the lines of its standard input, each by a line on standard output. A connection that ends is
 opened again by itself, at growing intervals of 100 milliseconds to 5 seconds, and one on which
-the broker is mute is opened anew. What happens to connections is logged on standard error, a line
+the broker is mute is reopened. What happens to connections is logged on standard error, a line
 each after its time in UTC and its level.
 
 Lines:
