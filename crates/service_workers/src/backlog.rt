@@ -1,5 +1,8 @@
 //! What is left to be sent to receivers of each kind.
 
+ghost use Rattle.std.specs.Prelude.{◌≡◌};
+ghost use Rattle.service_workers.specs.Backlogs.{earlier, moment_of};
+
 use crate::walk::{Left, Walk};
 use base::Kind;
 
@@ -82,7 +85,9 @@ impl Backlog {
     }
 
     /// Since when new rows can be looked at, where the journal has more now and no connection has changed.
-    fn moment(&self, rows: u64, changes: u64) -> Option<Moment> {
+    fn moment(&self, rows: u64, changes: u64) -> Option<Moment>
+        ensures { result ≡ moment_of self.now rows changes }
+    {
         // Where a walk left something, older letters may be due too: news alone wouldn't do.
         let number = self.whole?;
         if rows <= self.rows || changes != self.changes {
@@ -187,6 +192,19 @@ impl Backlog {
     }
 }
 
+/// The one of two moments at which the journal had fewer rows.
+fn earlier(first: Option<Moment>, second: Option<Moment>) -> Option<Moment>
+    ensures { result ≡ earlier first second }
+{
+    let Some(one) = first else {
+        return second;
+    };
+    match second {
+        Some(other) if other.rows < one.rows => Some(other),
+        _ => Some(one),
+    }
+}
+
 /// What is left to be sent, by the kind of receiver. Each has its own window on a connection, so that nobody waits for another
 /// one's settles.
 #[derive(Drop)]
@@ -207,16 +225,18 @@ impl Backlogs {
         }
     }
 
-    /// Since when new rows can be looked at for one of them at least.
-    pub(crate) fn moment(&self, rows: u64, changes: u64) -> Option<Moment> {
-        // One moment for all: a kind that was whole at another one gets its news at a later look.
-        match self.order.moment(rows, changes) {
-            Some(moment) => Some(moment),
-            None => match self.stock.moment(rows, changes) {
-                Some(moment) => Some(moment),
-                None => self.account.moment(rows, changes),
-            },
-        }
+    /// Since when new rows can be looked at for one of them at least: the earliest moment.
+    pub(crate) fn moment(&self, rows: u64, changes: u64) -> Option<Moment>
+        ensures { result ≡ earlier (moment_of self.now.order rows changes)
+            (earlier (moment_of self.now.stock rows changes) (moment_of self.now.account rows changes)) }
+    {
+        // One moment for all: a kind that was whole at another one gets its news at a later look. The earliest comes first, so
+        // that no kind waits for another for ever while each look finds new rows.
+        let partners = earlier(
+            self.stock.moment(rows, changes),
+            self.account.moment(rows, changes),
+        );
+        earlier(self.order.moment(rows, changes), partners)
     }
 
     /// Counts a rest in vain, and answers whether the outbox is walked over from its first letter for it.
