@@ -20,8 +20,8 @@ use Rattle.relay.proofs.relay.Relay.TheSendSync as relay_laws
 use Rattle.intake.specs.contracts.intake.IntakeReader as reader
 use Rattle.intake.proofs.intake.IntakeReader.TheSendSync as reader_laws
 use Rattle.shared_endpoint.proofs.tokens.Witness.TheSendSync as witness_laws
-use Rattle.service_workers.specs.declared.line.Naming as naming
-use Rattle.service_workers.specs.declared.line.RunNaming as run_naming
+use Rattle.service_workers.specs.declared.naming.Naming as naming
+use Rattle.service_workers.specs.declared.naming.RunNaming as run_naming
 use Rattle.service_workers.specs.contracts.arrival.Arrival as arrival
 use Rattle.service_workers.specs.contracts.arrival.Arrival.TheInside as arrival_inside
 use Rattle.service_workers.specs.contracts.conn.Conn as conn
@@ -92,7 +92,10 @@ module _ (N L H K S C : RattleType) (n : naming.Ghosts N.Denot K.Denot L.Denot) 
       snapshot_send (option.the_row (conn.the_row L)),
       (
         witness_laws.the_send H K S C h p k,
-        (phantom_send, tt),
+        (
+          search (std.crosses, sendable) depth 20,
+          (phantom_send, tt),
+        ),
       ),
     ),
   ))
@@ -107,7 +110,10 @@ module _ (N L H K S C : RattleType) (n : naming.Ghosts N.Denot K.Denot L.Denot) 
         witness_laws.the_send H K S C h p k,
         (
           search (std.crosses, sendable) depth 20,
-          (declared_send (phantom.the_type (Tuple (N ∷ (M ∷ [])))) tt, tt),
+          (
+            search (std.crosses, sendable) depth 20,
+            (declared_send (phantom.the_type (Tuple (N ∷ (M ∷ [])))) tt, tt),
+          ),
         ),
       ),
     ),

@@ -32,11 +32,12 @@ one_among xs ys zs w is = any_left (λ k. k ≡ w) (xs ++ ys) zs
     (any_right (λ k. k ≡ w) xs ys (subst (Any (λ k. k ≡ w)) (sym is) (inl refl)))
 
 -- the store was usable, or two connections are no more: so it is of those that go on, for a key that knows the same
-pub still_usable : {E T : Type 0} (seen : E → Seen T) (vs ws : List (ToldToken E)) (a b c d : Bool) → ws ≡ vs → c ≡ a → d ≡ b
+pub still_usable : {E T : Type 0} (seen : E → Seen T) (vs ws : List (ToldToken E)) (a b c d : Bool) → ws ≡ vs
+    → (a ≡ false → c ≡ false) → (b ≡ false → d ≡ false)
     → WasUsable seen vs ⊎ ((a ≡ false) × (b ≡ false))
     → WasUsable seen ws ⊎ ((c ≡ false) × (d ≡ false))
 still_usable seen vs ws a b c d same zero one (inl usable) = inl (subst (WasUsable seen) (sym same) usable)
-still_usable seen vs ws a b c d same zero one (inr none) = inr (zero ∙ none.0, one ∙ none.1)
+still_usable seen vs ws a b c d same zero one (inr none) = inr (zero none.0, one none.1)
 
 module _ {L : Type 0} (put_gives : L → List ℕ → Result ℕ LinkFault → L → Type 0)
     (take_gives : L → ℕ → Result (List ℕ) LinkFault → L → Type 0) {E S C : Type 0} (seen : E → Seen (Tables S C))

@@ -473,7 +473,7 @@ module _ {L : Type 0} (put_gives : L → List ℕ → Result ℕ LinkFault → L
   finds_after found.Nothing b c d h k = deals_after b c d h k
   finds_after found.Answered b c d h k = deals_after b c d h k
   finds_after found.Connected b c d h k = deals_after b c d h k
-  finds_after (found.Message m) b c d h k = reads_both [] (m ∷ []) b c d h k
+  finds_after (found.Message m) b c d h k = (k.0, reads_both [] (m ∷ []) b c d h k.1)
   finds_after (found.Over cut) b c d h k = some_both b c d ([], h) k
 
   pub none_after : (r : Found) (b c d : Conn L) → ReadsOnly put_gives take_gives [] b c
@@ -612,7 +612,7 @@ module _ {L : Type 0} (put_gives : L → List ℕ → Result ℕ LinkFault → L
     finds_come found.Nothing c d is h k = (tt, some_come c d is (h.0, h.2) k)
     finds_come found.Answered c d is h k = (tt, some_come c d is (h.0, h.2) k)
     finds_come found.Connected c d is h k = (tt, some_come c d is (h.0, h.2) k)
-    finds_come (found.Message m) c d is h k = let come = reads_come (m ∷ []) c d is h k in (come.0.0, come.1)
+    finds_come (found.Message m) c d is h k = let come = reads_come (m ∷ []) c d is h.1 k in (come.0.0, come.1)
     finds_come (found.Over cut) c d is h k = (tt, some_come c d is h k)
 
     -- a frame that came is taken back
@@ -652,7 +652,7 @@ module _ {L : Type 0} (put_gives : L → List ℕ → Result ℕ LinkFault → L
   finds_starts found.Nothing c d h = h.2.starts
   finds_starts found.Answered c d h = h.2.starts
   finds_starts found.Connected c d h = h.2.starts
-  finds_starts (found.Message m) c d h = h.starts
+  finds_starts (found.Message m) c d h = h.1.starts
   finds_starts (found.Over cut) c d h = h.1.starts
 
   -- what came on a connection that began with this link came on one of which that is so, where it's so of the link

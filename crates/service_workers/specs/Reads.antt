@@ -96,7 +96,7 @@ module _ {L : Type 0} (put_gives : L → List ℕ → Result ℕ LinkFault → L
 
   -- What `next` finds: a MESSAGE is the next of the frames that were read. None is passed over, unless the connection is over.
   abbrev pub Finds : Found → (c d : Conn L) → Type 0
-  Finds (Message f) c d = ReadsOnly (f ∷ []) c d
+  Finds (Message f) c d = (f.command ≡ command.Message) × ReadsOnly (f ∷ []) c d
   Finds (Over _) c d = ReadsSome c d
   Finds _ c d = (given : List Content) × AreOthers given × ReadsOnly given c d
 

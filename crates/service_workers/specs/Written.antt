@@ -26,15 +26,12 @@ use Rattle.laws_stores.specs.Writing.{IsTrueIn}
 use Rattle.told_lock.specs.Rule.{Every}
 use Rattle.told_lock.specs.declared.view.ToldToken.{ToldToken}
 use Rattle.shared_endpoint.specs.Promises.{IsOneHistory}
-use Rattle.shared_endpoint.specs.Keys.{Any, Closes, shown_hand}
-use Rattle.service_workers.specs.Conns.{link_of, client_of, start_of, or_was, IsGiven}
-use Rattle.service_workers.specs.Reads.{CameFrom, IsReadIf}
+use Rattle.shared_endpoint.specs.Keys.{Any, Closes}
+use Rattle.service_workers.specs.Conns.{link_of, client_of, start_of}
+use Rattle.service_workers.specs.Reads.{CameFrom}
 use Rattle.service_workers.specs.Tokens.{Progress, progress_of, HasArrived}
-use Rattle.service_workers.specs.Handed.{AreGoodWhile}
 use Rattle.service_workers.specs.Truth.{IsForeign, IsNotSent}
 use Rattle.service_workers.specs.declared.conn.Conn.{Conn}
-use Rattle.service_workers.specs.declared.ended.Ended.{Ended}
-use Rattle.service_workers.specs.declared.handed.Tokens.{Tokens}
 
 -- ---- links
 
@@ -179,19 +176,3 @@ module _ {L : Type 0} (put_gives : L → List ℕ → Result ℕ LinkFault → L
     -- the same where there is one
     abbrev pub HasSpokenIf : List E → Option (Conn L) → Type 0
     HasSpokenIf witnessed = HasWrittenIf (MightSpeak seen service witnessed)
-
-    -- How a run starts that is named so: while its name is sound the tokens are good, these connections have spoken by what
-    -- was shown to the Hand, and what was read off them is held; and what is asked of their links is so.
-    pub record Starts {H : Type 0} (sound : Type 0) (given : L → Type 0) (tokens : Tokens H E S C)
-        (conns : List (Option (Conn L))) : Type 0 where
-      pub tokens_good : AreGoodWhile seen service sound tokens
-      pub conns_given : Every (IsGiven given) conns
-      pub conns_spoken : sound → Every (HasSpokenIf (shown_hand tokens.hand)) conns
-      pub conns_read : sound → Every (IsReadIf put_gives take_gives) conns
-
-    -- and how it ends: what is left of its connections has spoken so, and what was read off those that are left is held
-    pub record Ends {H : Type 0} (sound : Type 0) (given : L → Type 0) (tokens : Tokens H E S C) (ended : List (Ended L))
-        : Type 0 where
-      pub ended_given : Every (λ e. IsGiven given (or_was e.conn e.was.value)) ended
-      pub ended_spoken : sound → Every (λ e. HasSpokenIf (shown_hand tokens.hand) (or_was e.conn e.was.value)) ended
-      pub ended_read : sound → Every (λ e. IsReadIf put_gives take_gives e.conn) ended

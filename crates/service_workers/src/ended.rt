@@ -1,6 +1,7 @@
 //! What comes of a connection.
 
-ghost use Rattle.std.specs.Prelude.{◌≡◌};
+ghost use Rattle.std.specs.Prelude.{◌≡◌, true, false, None};
+ghost use Rattle.service_workers.specs.Conns.{or_was};
 
 use crate::Conn;
 use std::snapshot::Snapshot;
@@ -31,4 +32,35 @@ impl<L: Link + Drop> Ended<L> {
         let Ended { conn, was: _ } = self;
         conn
     }
+}
+
+/// The place of a connection, and what was noted of it. Where the connection is of no more use, it's cut as it is.
+pub(crate) fn cut_where<L: Drop>(
+    is_useless: bool,
+    conn: Option<Conn<L>>,
+    was: Snapshot<Option<Conn<L>>>,
+) -> (Option<Conn<L>>, Snapshot<Option<Conn<L>>>)
+    ensures same { or_was result.0 result.1.value ≡ or_was conn was.value }
+    ensures kept { is_useless ≡ false → result.0 ≡ conn }
+    ensures cut { is_useless ≡ true → result.0 ≡ None }
+    ensures none { conn ≡ None → result.0 ≡ None }
+{
+    // Not where there is none: what was noted when it was cut would be lost.
+    if is_useless && conn.is_some() {
+        let noted = Snapshot::of(&conn);
+        return (None, noted);
+    }
+    (conn, was)
+}
+
+/// Cuts a connection as it is, whatever is so of it.
+pub(crate) fn note_and_drop<L: Drop>(
+    conn: &mut Option<Conn<L>>,
+    was: &mut Snapshot<Option<Conn<L>>>,
+)
+    ensures was { was.new.value ≡ conn.old }
+    ensures none { conn.new ≡ None }
+{
+    *was = Snapshot::of(conn);
+    *conn = None;
 }

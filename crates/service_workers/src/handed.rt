@@ -1,6 +1,7 @@
 //! What a run of a service is given, and what it returns.
 
-use crate::line::{Line, Naming};
+use crate::line::Line;
+use crate::naming::Naming;
 use crate::{Conn, Ended};
 use activities::Handler;
 use keep::Keep;

@@ -6,7 +6,7 @@ ghost use Rattle.service_workers.specs.Conns.{links_of, values_of};
 ghost use Rattle.service_workers.specs.Lives.{HasTakenWhatCame, LifeStands};
 
 use crate::Conn;
-use crate::line::Naming;
+use crate::naming::Naming;
 use crate::past::Past;
 use activities::Handler;
 use endpoint::Endpoint;

@@ -1,18 +1,20 @@
 //! A connection under its lock, with a witness of what was written on it.
 
-ghost use Rattle.std.specs.Prelude.{◌≡◌, false, true, is_some, Option, None, Some, IfOk, IfErr, IfSome, ⊤};
-ghost use Rattle.stomp_frame.specs.declared.command.Command.TheVariants.{Connect};
+ghost use Rattle.std.specs.Prelude.{◌≡◌, true, false, is_some, None, Some, IfOk, IfErr, IfSome};
+ghost use Rattle.stomp_frame.specs.declared.command.Command.TheVariants.{Connect, Message};
 ghost use Rattle.activities.specs.Numbered.{IsPrefixOf};
-ghost use Rattle.told_lock.specs.Keys.{LockName, no_name};
 ghost use Rattle.shared_endpoint.specs.Keys.{IsHandOf, IsScoutOf, IsWitnessAt, IsWitnessOf, name_of, told_hand, told_scout};
 ghost use Rattle.shared_endpoint.specs.Keys.{shown_hand, shown_witness};
 ghost use Rattle.service_workers.specs.Conns.{began_with, or_was, IsGiven, RunStanding, Standing};
+ghost use Rattle.service_workers.specs.Owing.{OwesIf};
 ghost use Rattle.service_workers.specs.Reads.{CameFrom, CameOver, IfFound, IsReadIf};
 ghost use Rattle.service_workers.specs.Taking.{CarriedIn};
 ghost use Rattle.service_workers.specs.Truth.{Knows, AnsweredTo, AreSentIn};
 ghost use Rattle.service_workers.specs.Written.{HasSpokenIf};
 
 use crate::conn::Found;
+use crate::ended::{cut_where, note_and_drop};
+use crate::naming::{Naming, RunNaming};
 use crate::replying::{Read, finish, goes_on};
 use crate::worker::Answer;
 use crate::{Conn, Cut, Ended};
@@ -24,51 +26,16 @@ use keep::Keep;
 use reception::ReceptionFault;
 use shared_endpoint::{Hand, Scout, Shared, Witness};
 use std::alloc::Global;
-use std::marker::{Brand, Model, PhantomData};
+use std::marker::{Model, PhantomData};
 use std::mem::replace;
 use std::snapshot::Snapshot;
+use stomp_client::ClientFault;
 use stomp_frame::Frame;
 use stomp_wire::Link;
 
-/// Names one run of a service, for what lies under a connection's lock and can't hold the service: its lock, and what has
-/// to be so that what is written is true. Each call of `run_service` picks it.
-pub trait Naming<T, L> {
-    ghost use Rattle.std.specs.Prelude.{Option};
-
-    ghost lock: { LockName T };
-
-    // What has to be so.
-    ghost sound: { Type 0 };
-
-    // What is so of the links of the connections that were given, each as it was when its connection was opened.
-    ghost given: { L → Type 0 };
-
-    // The endpoint that was found when the service's life began, where that is said.
-    ghost found: { Option T };
-}
-
-impl<T, L> Naming<T, L> for Brand {
-    ghost lock = { no_name };
-
-    ghost sound = { ⊤ };
-
-    ghost given = { λ link. ⊤ };
-
-    ghost found = { None };
-}
-
-/// Names the connections of one run, for what comes on them. Each run picks it.
-pub(crate) trait RunNaming<L> {
-    ghost use Rattle.std.specs.Prelude.{ℕ, Option};
-
-    // The link that a connection began with, by its number, where there was one when the run began.
-    ghost begun: { ℕ → Option L };
-}
-
-impl<L> RunNaming<L> for Brand {
-    ghost use Rattle.std.specs.Prelude.{None};
-
-    ghost begun = { λ number. None };
+/// Why a connection is cut on which other answers were written than it owes: the broker redelivers what wasn't answered.
+fn miscounted() -> Cut {
+    Cut::Reception(ReceptionFault::Client(ClientFault::Unexpected))
 }
 
 /// The place of a connection, and a witness of what its frames were allowed by. Contracts see whether the connection is
@@ -85,16 +52,9 @@ where
     // The connection as it was when it was cut, for contracts alone.
     was: Snapshot<Option<Conn<L>>>,
     witness: Witness<H, K>,
+    // What came was thrown away: MESSAGEs may be among it that nobody answers.
+    is_leaving: bool,
     of: PhantomData<N>,
-}
-
-/// Cuts a connection as it is, whatever is so of it.
-fn note_and_drop<L: Drop>(conn: &mut Option<Conn<L>>, was: &mut Snapshot<Option<Conn<L>>>)
-    ensures was { was.new.value ≡ conn.old }
-    ensures none { conn.new ≡ None }
-{
-    *was = Snapshot::of(conn);
-    *conn = None;
 }
 
 impl<N, L, H, K> Model for Line<N, L, H, K>
@@ -112,7 +72,8 @@ where
         × IsGiven N.given (or_was l.conn l.was.value)
         × (N.sound → HasSpokenIf L.put_gives L.take_gives K.seen H.service (shown_witness l.witness)
         (or_was l.conn l.was.value))
-        × (N.sound → IsReadIf L.put_gives L.take_gives l.conn) };
+        × (N.sound → IsReadIf L.put_gives L.take_gives l.conn)
+        × (N.sound → l.is_leaving ≡ false → OwesIf L.put_gives L.take_gives 0 l.conn) };
 }
 
 impl<N, L, H, K> Line<N, L, H, K>
@@ -128,6 +89,7 @@ where
         requires given { IsGiven N.given conn }
         requires spoken { N.sound → HasSpokenIf L.put_gives L.take_gives K.seen H.service (shown_witness witness) conn }
         requires read { N.sound → IsReadIf L.put_gives L.take_gives conn }
+        requires owes { N.sound → OwesIf L.put_gives L.take_gives 0 conn }
         ensures there { result.is_there ≡ is_some conn }
         ensures link { result.link ≡ began_with conn }
     {
@@ -136,6 +98,7 @@ where
             conn,
             was,
             witness,
+            is_leaving: false,
             of: PhantomData,
         }
     }
@@ -174,6 +137,7 @@ where
         match Conn::open_by(alloc, link, connect, prefetch) {
             Ok(conn) => {
                 self.conn = Some(conn);
+                self.is_leaving = false;
                 Ok(())
             }
             Err(link) => Err(link),
@@ -207,10 +171,13 @@ where
         conn.leave().ok()
     }
 
-    /// Writes what waits, reads what came, and throws it away. Whether there is nothing more to wait for: then it's cut.
+    /// Writes what waits, reads what came, and throws it away. Whether there is nothing more to wait for: then it's cut. No
+    /// run reads or writes on the connection after that: it begins with cutting it.
     pub fn has_left(&mut self, alloc: Global, receipt: u64) -> bool
         ensures link { self.new.link ≡ self.old.link }
     {
+        // Before anything is read: MESSAGEs that are thrown away stay unanswered.
+        self.is_leaving = true;
         let Some(conn) = &mut self.conn else {
             return true;
         };
@@ -279,30 +246,34 @@ where
             conn: _conn,
             was: _,
             witness: _witness,
+            is_leaving: _,
             of: _,
         } = self;
     }
 
-    /// What is left of the connection. The Hand learns the witness.
+    /// What is left of the connection. One that was leaving is cut. The Hand learns the witness.
     pub(crate) fn end(self, shared: &Shared<H, K>, hand: &mut Hand<H, K>) -> Ended<L>
         requires at { name_of shared.now ≡ N.lock }
         requires hand { IsHandOf shared.now hand.old }
         ensures hand { IsHandOf shared.now hand.new }
         ensures knows { told_hand hand.new ≡ told_hand hand.old }
-        ensures conn { is_some result.conn ≡ self.is_there }
+        ensures conn { self.is_there ≡ false → is_some result.conn ≡ false }
         ensures link { began_with (or_was result.conn result.was.value) ≡ self.link }
         ensures given { IsGiven N.given (or_was result.conn result.was.value) }
         ensures shown { IsPrefixOf (shown_hand hand.old) (shown_hand hand.new) }
         ensures spoken { N.sound → HasSpokenIf L.put_gives L.take_gives K.seen H.service (shown_hand hand.new)
             (or_was result.conn result.was.value) }
         ensures read { N.sound → IsReadIf L.put_gives L.take_gives result.conn }
+        ensures owes { N.sound → OwesIf L.put_gives L.take_gives 0 result.conn }
     {
         let Line {
             conn,
             was,
             witness,
+            is_leaving,
             of: _,
         } = self;
+        let (conn, was) = cut_where(is_leaving, conn, was);
         // What was written has to be true of what the Hand sees later: so the Hand learns what allowed it.
         hand.learn(shared, witness);
         Ended { conn, was }
@@ -324,6 +295,9 @@ where
     was: Snapshot<Option<Conn<L>>>,
     witness: Witness<H, K>,
     number: u8,
+    // How many of the MESSAGEs that were taken off it aren't answered: a connection that still owes one when the run ends is
+    // cut, and the broker redelivers it. So no MESSAGE is lost that a thread has dropped.
+    owed: u64,
     of: PhantomData<(N, M)>,
 }
 
@@ -344,6 +318,7 @@ where
         × (N.sound → HasSpokenIf L.put_gives L.take_gives K.seen H.service (shown_witness l.witness)
         (or_was l.conn l.was.value))
         × (N.sound → IsReadIf L.put_gives L.take_gives l.conn)
+        × (N.sound → OwesIf L.put_gives L.take_gives l.owed l.conn)
         × (M.begun l.number ≡ began_with (or_was l.conn l.was.value)) };
 }
 
@@ -355,29 +330,32 @@ where
     H: Handler,
     K: Keep<State = H::State, Command = H::Command> + Drop,
 {
-    /// The place of a connection, which has this number in the run.
+    /// The place of a connection, which has this number in the run. One that was leaving is cut.
     pub(crate) fn of_line(number: u8, line: Line<N, L, H, K>) -> RunLine<N, M, L, H, K>
         requires begun { M.begun number ≡ line.link }
-        ensures is { result ≡ record { number = number; is_there = line.is_there } }
+        ensures number { result.number ≡ number }
     {
         let Line {
             conn,
             was,
             witness,
+            is_leaving,
             of: _,
         } = line;
+        let (conn, was) = cut_where(is_leaving, conn, was);
         RunLine {
             conn,
             was,
             witness,
             number,
+            owed: 0,
             of: PhantomData,
         }
     }
 
-    /// The place, once the run is over.
+    /// The place, once the run is over. A connection on which a MESSAGE wasn't answered is cut.
     pub(crate) fn into_line(self) -> Line<N, L, H, K>
-        ensures there { result.is_there ≡ self.is_there }
+        ensures there { self.is_there ≡ false → result.is_there ≡ false }
         ensures link { result.link ≡ M.begun self.number }
     {
         let RunLine {
@@ -385,12 +363,15 @@ where
             was,
             witness,
             number: _,
+            owed,
             of: _,
         } = self;
+        let (conn, was) = cut_where(owed != 0, conn, was);
         Line {
             conn,
             was,
             witness,
+            is_leaving: false,
             of: PhantomData,
         }
     }
@@ -437,31 +418,48 @@ where
         }
     }
 
-    /// The next frame that came, if the connection is there.
+    /// The next frame that came, if the connection is there. A MESSAGE is owed an answer from then on. A connection that is of
+    /// no more use is cut at once: frames may be lost that nobody answers.
     pub(crate) fn next(&mut self, alloc: Global) -> Found
+        ensures message { IfFound (λ f. f.command ≡ Message) result }
         ensures came { N.sound → IfFound (CameOver L.put_gives L.take_gives N.given (M.begun self.old.number)) result }
         ensures number { self.new.number ≡ self.old.number }
     {
         let Some(conn) = &mut self.conn else {
             return Found::Nothing;
         };
-        conn.next(alloc, H::kind())
+        // Never so: each of them takes memory.
+        if self.owed == u64::MAX {
+            return Found::Nothing;
+        }
+        let found = conn.next(alloc, H::kind());
+        self.owed += found.owed();
+        if found.is_over() {
+            note_and_drop(&mut self.conn, &mut self.was);
+        }
+        found
     }
 
-    /// Keeps a frame that `next` gave, if the connection is there. The number is that of the frame's connection: at another
-    /// one's frame, which never comes here, the connection would be cut.
-    pub(crate) fn keep(&mut self, number: u8, frame: Frame<MAX_BODY>)
+    /// Keeps a MESSAGE that `next` gave, if the connection is there: it isn't owed an answer until it's given again. The number
+    /// is that of the MESSAGE's connection.
+    ///
+    /// # Errors
+    /// The connection is cut where the MESSAGE came on another, or another frame waits, or none is owed: that is never so.
+    pub(crate) fn keep(&mut self, number: u8, frame: Frame<MAX_BODY>) -> Result<(), Cut>
+        requires message { frame.command ≡ Message }
         requires came { N.sound → CameFrom L.put_gives L.take_gives (M.begun number) frame }
         ensures number { self.new.number ≡ self.old.number }
     {
-        if number != self.number {
-            self.cut();
-            return;
-        }
         let Some(conn) = &mut self.conn else {
-            return;
+            return Ok(());
         };
+        if number != self.number || conn.has_next() || self.owed == 0 {
+            note_and_drop(&mut self.conn, &mut self.was);
+            return Err(miscounted());
+        }
         conn.keep(frame);
+        self.owed -= 1;
+        Ok(())
     }
 
     /// So many of its letters to receivers of a kind aren't settled.
@@ -502,9 +500,10 @@ where
         }
     }
 
-    /// Writes the answer to a MESSAGE that came on the connection, and returns why it wasn't taken, where that is the answer.
-    /// One that came on another connection isn't answered here, as where its own isn't there any more. If the connection is of
-    /// no more use, as after a failure of the store, it's cut at once: nothing more is written on it.
+    /// Writes the answer to a MESSAGE that came on the connection, and returns why it wasn't taken, where that is the answer:
+    /// then it owes one answer less. One that came on another connection isn't answered here, as where its own isn't there any
+    /// more. If the connection is of no more use, as after a failure of the store, it's cut at once: nothing more is written on
+    /// it. So it is where it owes no answer, which is never so.
     pub(crate) fn reply(
         &mut self,
         alloc: Global,
@@ -516,6 +515,7 @@ where
         requires at { name_of shared.now ≡ N.lock }
         requires hand { IsHandOf shared.now hand.old }
         requires came { N.sound → CameFrom L.put_gives L.take_gives (M.begun read.number) read.message }
+        requires message { read.message.command ≡ Message }
         requires carries { IfSome read.envelope (λ e. CarriedIn read.message e.now) }
         requires told { Knows K.seen H.service N.sound (AnsweredTo H.service read.message answer) (told_hand hand.old) }
         ensures hand { IsHandOf shared.now hand.new }
@@ -530,15 +530,26 @@ where
         let Some(conn) = &mut self.conn else {
             return Ok(None);
         };
+        if self.owed == 0 {
+            self.cut();
+            return Err(miscounted());
+        }
         // The witness first: the answer below speaks of what the Hand has seen.
         let witness = hand.witness(shared);
         self.witness.learn(shared, witness);
         match finish(alloc, conn, H::kind(), read, answer) {
-            Ok(_) => Ok(None),
-            Err(fault) if goes_on(fault) => Ok(Some(fault)),
-            // The letter may be handled already: the redelivered one is answered like any duplicate.
+            Ok(_) => {
+                self.owed -= 1;
+                Ok(None)
+            }
+            Err(fault) if goes_on(fault) => {
+                self.owed -= 1;
+                Ok(Some(fault))
+            }
+            // The letter may be handled already: the redelivered one is answered like any duplicate. The connection is dropped
+            // here, and not by `cut`: a NACK may have been appended, which isn't counted.
             Err(fault) => {
-                self.cut();
+                note_and_drop(&mut self.conn, &mut self.was);
                 Err(Cut::Reception(fault))
             }
         }

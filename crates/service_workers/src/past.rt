@@ -7,7 +7,8 @@ ghost use Rattle.service_workers.specs.Conns.{links_of, values_of};
 ghost use Rattle.service_workers.specs.Written.{HasSpokenIf};
 
 use crate::Conn;
-use crate::line::{Line, Naming};
+use crate::line::Line;
+use crate::naming::Naming;
 use activities::Handler;
 use keep::Keep;
 use shared_endpoint::{Hand, Shared, Witness};

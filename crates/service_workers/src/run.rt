@@ -1,7 +1,8 @@
 //! One run of a service: what its threads share.
 
-use crate::line::{Naming, RunLine, RunNaming};
+use crate::line::RunLine;
 use crate::lines::Signals;
+use crate::naming::{Naming, RunNaming};
 use crate::{Gate, Stop};
 use activities::Handler;
 use keep::Keep;

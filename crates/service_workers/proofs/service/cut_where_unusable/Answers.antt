@@ -1,5 +1,3 @@
-use Rattle.shared_endpoint.specs.Token.{scout_number}
-use Rattle.service_workers.proofs.Further.{on_same}
 use Rattle.service_workers.proofs.Lives.{none_came}
 use Rattle.service_workers.proofs.service.cut_where_unusable.Goals as goal
 

@@ -17,6 +17,7 @@ returns-clause-ends g c = record {
     (c.end-one.ensures.spoken s, tt),
   );
   ended_read = λ s. (c.end-zero.ensures.read s, (c.end-one.ensures.read s, tt));
+  ended_owe = λ s. (c.end-zero.ensures.owes s, (c.end-one.ensures.owes s, tt));
 }
 
 pub returns-clause-usable : goal.returns-clause-usable

@@ -15,7 +15,7 @@ pub returns-in-Ok-Done-Connected : goal.returns-in-Ok-Done-Connected
 returns-in-Ok-Done-Connected g c = record {
   writes = conn_says g.L.Link.put_gives g.L.Link.take_gives (IsOfSession c.args.kind) c.args.self.now _ refl refl
       (prepares_says c.args.kind c.args.frame
-      c.args.self.now.channel.client c.prepare.new.client c.prepare.result (c.is_message.ensures c.if-is_message.false) c.prepare.ensures);
+      c.args.self.now.channel.client c.prepare.new.client c.prepare.result (c.is_message.ensures.not c.if-is_message.false) c.prepare.ensures);
   finds = deals_with_it g.L.Link.put_gives g.L.Link.take_gives c.args.frame c.args.self.now _ c.requires
       (let e = subst (λ p. PreparesFrame c.args.kind c.args.frame c.args.self.now.channel.client c.prepare.new.client (Ok p))
       c.in-Ok-Done-Connected.field-0-is c.in-Ok-Done-Connected.ensures in
@@ -28,7 +28,7 @@ pub returns-in-Ok-Done-Error : goal.returns-in-Ok-Done-Error
 returns-in-Ok-Done-Error g c = record {
   writes = conn_says g.L.Link.put_gives g.L.Link.take_gives (IsOfSession c.args.kind) c.args.self.now _ refl refl
       (prepares_says c.args.kind c.args.frame
-      c.args.self.now.channel.client c.prepare.new.client c.prepare.result (c.is_message.ensures c.if-is_message.false) c.prepare.ensures);
+      c.args.self.now.channel.client c.prepare.new.client c.prepare.result (c.is_message.ensures.not c.if-is_message.false) c.prepare.ensures);
   finds = ends_with_it g.L.Link.put_gives g.L.Link.take_gives c.args.frame c.args.self.now _ c.requires
       (reads_nothing g.L.Link.put_gives g.L.Link.take_gives c.args.self.now _ refl refl refl refl);
 }
@@ -37,7 +37,7 @@ pub returns-in-Ok-Done : goal.returns-in-Ok-Done
 returns-in-Ok-Done g c = record {
   writes = conn_says g.L.Link.put_gives g.L.Link.take_gives (IsOfSession c.args.kind) c.args.self.now _ refl refl
       (prepares_says c.args.kind c.args.frame
-      c.args.self.now.channel.client c.prepare.new.client c.prepare.result (c.is_message.ensures c.if-is_message.false) c.prepare.ensures);
+      c.args.self.now.channel.client c.prepare.new.client c.prepare.result (c.is_message.ensures.not c.if-is_message.false) c.prepare.ensures);
   finds = deals_with_it g.L.Link.put_gives g.L.Link.take_gives c.args.frame c.args.self.now _ c.requires
       (let e = subst (λ p. PreparesFrame c.args.kind c.args.frame c.args.self.now.channel.client c.prepare.new.client (Ok p))
       c.in-Ok-Done.field-0-is c.in-Ok-Done.ensures in
@@ -51,7 +51,7 @@ returns-in-Some g c = record {
   writes = conn_says g.L.Link.put_gives g.L.Link.take_gives (IsOfSession c.args.kind) c.args.self.now _ refl refl
       (subst (λ (k : Client ℕ). Says (IsOfSession c.args.kind) c.args.self.now.channel.client.client k)
       (sym (ap (λ (ch : Channel). ch.client.client) c.put_back.ensures)) (prepares_says c.args.kind c.args.frame
-      c.args.self.now.channel.client c.prepare.new.client c.prepare.result (c.is_message.ensures c.if-is_message.false) c.prepare.ensures));
+      c.args.self.now.channel.client c.prepare.new.client c.prepare.result (c.is_message.ensures.not c.if-is_message.false) c.prepare.ensures));
   finds = puts_it_back g.L.Link.put_gives g.L.Link.take_gives c.args.frame c.in-Some.frame c.in-Err.untaken.fault
       c.in-Err.untaken.frame c.args.self.now _ c.in-Err.ensures.2 c.in-Some.is refl refl
       (ap (λ (ch : Channel). ch.decoder) c.put_back.ensures) (ap (λ (ch : Channel). ch.waiting) c.put_back.ensures ∙ ap Some
@@ -62,13 +62,16 @@ pub returns : goal.returns
 returns g c = record {
   writes = conn_says g.L.Link.put_gives g.L.Link.take_gives (IsOfSession c.args.kind) c.args.self.now _ refl refl
       (prepares_says c.args.kind c.args.frame
-      c.args.self.now.channel.client c.prepare.new.client c.prepare.result (c.is_message.ensures c.if-is_message.false) c.prepare.ensures);
+      c.args.self.now.channel.client c.prepare.new.client c.prepare.result (c.is_message.ensures.not c.if-is_message.false) c.prepare.ensures);
   finds = ends_with_it g.L.Link.put_gives g.L.Link.take_gives c.args.frame c.args.self.now _ c.requires
       (reads_nothing g.L.Link.put_gives g.L.Link.take_gives c.args.self.now _ refl refl refl refl);
 }
 
 pub returns-then-is_message-clause-finds : goal.returns-then-is_message-clause-finds
-returns-then-is_message-clause-finds g c = gives_it g.L.Link.put_gives g.L.Link.take_gives c.args.frame c.args.self.now c.requires
+returns-then-is_message-clause-finds g c = (
+  c.is_message.ensures.is c.if-is_message.true,
+  gives_it g.L.Link.put_gives g.L.Link.take_gives c.args.frame c.args.self.now c.requires,
+)
 
 pub returns-then-is_some-clause-finds : goal.returns-then-is_some-clause-finds
 returns-then-is_some-clause-finds g c = none_found g.L.Link.put_gives g.L.Link.take_gives c.take_connected.result c.args.frame

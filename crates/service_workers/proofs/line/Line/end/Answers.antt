@@ -8,7 +8,9 @@ use Rattle.service_workers.proofs.line.Line.end.Goals as goal
 pub returns-clause-spoken : goal.returns-clause-spoken
 returns-clause-spoken g c = λ s.
     let conn = or_was c.self.inside.conn c.self.inside.was.value in
-    subst (λ es. HasSpokenIf g.L.Link.put_gives g.L.Link.take_gives g.K.Keep.seen g.H.Handler.service es conn)
+    subst (λ o. HasSpokenIf g.L.Link.put_gives g.L.Link.take_gives g.K.Keep.seen g.H.Handler.service (shown_hand c.learn.new.self) o)
+    (sym c.cut_where-conn.ensures.same)
+    (subst (λ es. HasSpokenIf g.L.Link.put_gives g.L.Link.take_gives g.K.Keep.seen g.H.Handler.service es conn)
     (sym c.learn.ensures.shown)
     (spoken_before g.L.Link.put_gives g.L.Link.take_gives g.K.Keep.seen g.H.Handler.service (shown_hand c.args.hand.now)
-    (shown_witness c.self.inside.witness) conn (c.self.invariant.2 s))
+    (shown_witness c.self.inside.witness) conn (c.self.invariant.2 s)))

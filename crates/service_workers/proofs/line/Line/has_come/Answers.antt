@@ -4,6 +4,7 @@ use Rattle.service_workers.specs.Reads.{ReadsOnly}
 use Rattle.service_workers.specs.Written.{WritesOnly}
 use Rattle.service_workers.proofs.Coming.{line_reads}
 use Rattle.service_workers.proofs.Knowing.{line_stays}
+use Rattle.service_workers.proofs.Owing.{line_owes, owes_quiet}
 use Rattle.service_workers.proofs.Reading.{reads_nothing}
 use Rattle.service_workers.proofs.Written.{writes_nothing}
 use Rattle.service_workers.proofs.line.Line.has_come.Goals as goal
@@ -24,4 +25,10 @@ invariant_of-self-2 g c =
             subst (ReadsOnly g.L.Link.put_gives g.L.Link.take_gives [] c.in-Some.conn) (sym c.has_come.ensures.asked)
                 (reads_nothing g.L.Link.put_gives g.L.Link.take_gives c.in-Some.conn _ refl refl refl refl),
           ),
+      λ s stays. line_owes g.L.Link.put_gives g.L.Link.take_gives g.N.Naming.sound 0 0 c.self.inside.conn c.in-Some.conn c.has_come.new.self c.in-Some.is
+          (λ z. c.self.invariant.4 z stays) (owes_quiet g.L.Link.put_gives g.L.Link.take_gives 0 c.in-Some.conn c.has_come.new.self
+          (subst (ReadsOnly g.L.Link.put_gives g.L.Link.take_gives [] c.in-Some.conn) (sym c.has_come.ensures.asked)
+          (reads_nothing g.L.Link.put_gives g.L.Link.take_gives c.in-Some.conn _ refl refl refl refl))
+          (subst (WritesOnly g.L.Link.put_gives g.L.Link.take_gives [] c.in-Some.conn) (sym c.has_come.ensures.asked)
+          (writes_nothing g.L.Link.put_gives g.L.Link.take_gives c.in-Some.conn _ refl refl refl))) s,
     )

@@ -1,3 +1,4 @@
+use Rattle.std.proofs.Common.{◌≡◌, true, false}
 use Rattle.shared_endpoint.specs.Keys.{shown_witness}
 use Rattle.service_workers.proofs.Coming.{dropped, line_reads, none_is_read}
 use Rattle.service_workers.proofs.Knowing.{line_stays}
@@ -13,6 +14,7 @@ invariant_of-self-else-has_left g c =
       known.1,
       line_reads g.L.Link.put_gives g.L.Link.take_gives g.N.Naming.sound c.self.inside.conn c.in-Some.conn c.has_left.new.self c.in-Some.is
           c.self.invariant.3 (c.has_left.ensures.reads c.if-has_left.false),
+      λ s stays. absurd (let k : true ≡ false = stays in cc),
     )
 
 pub invariant_of-self-then-has_left : goal.invariant_of-self-then-has_left
@@ -27,4 +29,5 @@ invariant_of-self-then-has_left g c =
       last.0,
       last.1,
       λ s. none_is_read g.L.Link.put_gives g.L.Link.take_gives c.note_and_drop.new.conn c.note_and_drop.ensures.none,
+      λ s stays. absurd (let k : true ≡ false = stays in cc),
     )

@@ -1,6 +1,7 @@
 use Rattle.std.specs.Prelude.{[]}
 use Rattle.shared_endpoint.specs.Keys.{shown_witness}
 use Rattle.service_workers.proofs.Coming.{line_reads}
+use Rattle.service_workers.proofs.Owing.{line_owes, owes_session}
 use Rattle.service_workers.proofs.Written.{line_goes}
 use Rattle.service_workers.proofs.line.Line.leave.Goals as goal
 
@@ -15,4 +16,7 @@ invariant_of-self-2 g c =
       known.1,
       line_reads g.L.Link.put_gives g.L.Link.take_gives g.N.Naming.sound c.self.inside.conn c.in-Some.conn c.leave.new.self c.in-Some.is
           c.self.invariant.3 ([], c.leave.ensures.reads),
+      λ s stays. line_owes g.L.Link.put_gives g.L.Link.take_gives g.N.Naming.sound 0 0 c.self.inside.conn c.in-Some.conn c.leave.new.self c.in-Some.is
+          (λ z. c.self.invariant.4 z stays) (owes_session g.L.Link.put_gives g.L.Link.take_gives 0 g.H.Handler.service.kind c.in-Some.conn
+          c.leave.new.self c.leave.ensures.reads (c.leave.ensures.writes g.H.Handler.service.kind)) s,
     )

@@ -5,6 +5,7 @@ use Rattle.service_workers.specs.Reads.{ReadsOnly}
 use Rattle.service_workers.specs.Written.{WritesOnly}
 use Rattle.service_workers.proofs.Coming.{line_reads, link_stays}
 use Rattle.service_workers.proofs.Knowing.{line_stays}
+use Rattle.service_workers.proofs.Owing.{line_owes, owes_quiet}
 use Rattle.service_workers.proofs.Reading.{reads_nothing}
 use Rattle.service_workers.proofs.Written.{writes_nothing}
 use Rattle.service_workers.proofs.line.RunLine.counted.Goals as goal
@@ -25,6 +26,12 @@ invariant_of-self-2 g c =
             subst (ReadsOnly g.L.Link.put_gives g.L.Link.take_gives [] c.in-Some.conn) (sym c.counted.ensures)
                 (reads_nothing g.L.Link.put_gives g.L.Link.take_gives c.in-Some.conn _ refl refl refl refl),
           ),
+      line_owes g.L.Link.put_gives g.L.Link.take_gives g.N.Naming.sound c.self.inside.owed c.self.inside.owed c.self.inside.conn c.in-Some.conn c.counted.new.self
+          c.in-Some.is c.self.invariant.4 (owes_quiet g.L.Link.put_gives g.L.Link.take_gives c.self.inside.owed c.in-Some.conn c.counted.new.self
+          (subst (ReadsOnly g.L.Link.put_gives g.L.Link.take_gives [] c.in-Some.conn) (sym c.counted.ensures)
+          (reads_nothing g.L.Link.put_gives g.L.Link.take_gives c.in-Some.conn _ refl refl refl refl))
+          (subst (WritesOnly g.L.Link.put_gives g.L.Link.take_gives [] c.in-Some.conn) (sym c.counted.ensures)
+          (writes_nothing g.L.Link.put_gives g.L.Link.take_gives c.in-Some.conn _ refl refl refl))),
       link_stays (g.M.RunNaming.begun c.self.inside.number) c.self.inside.conn c.self.inside.was.value c.in-Some.conn
-          c.counted.new.self c.in-Some.is (ap start_of c.counted.ensures) c.self.invariant.4,
+          c.counted.new.self c.in-Some.is (ap start_of c.counted.ensures) c.self.invariant.5,
     )
