@@ -42,6 +42,17 @@ same_but {C} news news' r b ms ms' reach reach' rows marks same upto sent = λ x
     ≡ []) rows none)
     (subst (λ (m : Messages). IsSome (m x.pair x.number)) same some))
 
+-- All was sent but what the news sent: so it is known, or there is no place up to which it would have to be.
+pub known_or_none : {C known : Type 0} (news : List (JournalRow C)) (marks : Pair → ℕ) (messages : Messages)
+    (behind was : Option LetterPlace)
+    → (behind ≡ None) ⊎ (behind ≡ was) → (known → SentBut news marks messages behind) → known ⊎ (was ≡ None)
+    → SentBut news marks messages behind
+known_or_none news marks messages behind was kept sent (inl k) = sent k
+known_or_none news marks messages behind was (inl gone) sent (inr none) =
+    λ x up rows some. none_upto marks messages behind gone x up some
+known_or_none news marks messages behind was (inr same) sent (inr none) =
+    λ x up rows some. none_upto marks messages behind (same ∙ none) x up some
+
 same_sent : (r s : Relay) (ms ms' : Messages) (behind : Option LetterPlace) → s.marks ≡ r.marks → ms ≡ ms'
     → AllSent (marks_of r) ms behind
     → AllSent (marks_of s) ms' behind

@@ -53,7 +53,7 @@ impl Relay {
         ensures read { Reads K.seen endpoint.old endpoint.new (λ _ _. ⊤) (store_end result) }
         ensures stays { Stays K.seen endpoint.old endpoint.new }
         ensures fills { Fills (((K.seen endpoint.new).doubt ≡ 0)
-            × KnowsAll H.service self.old (K.seen endpoint.old).may_leave)
+            × (KnowsAll H.service self.old (K.seen endpoint.old).may_leave ⊎ (self.old.behind ≡ None)))
             (K.seen endpoint.old).tables.unsettled limit (send_state self.old client.old)
             (send_state self.new client.new) result }
         ensures unused { (K.seen endpoint.old).usable ≡ false

@@ -1,10 +1,11 @@
 //! What was sent of each pair on a connection.
 
-ghost use Rattle.std.specs.Prelude.{◌≡◌, ℕ, false, OnOk, OnErr, IfErr, IfSome, Ok, ⊤, []};
+ghost use Rattle.std.specs.Prelude.{◌≡◌, ℕ, false, OnOk, OnErr, IfErr, IfSome, None, Ok, ⊤, []};
 ghost use Rattle.std.specs.Prelude.{◌∷◌};
 ghost use Rattle.base.specs.declared.pair.Pair.{Pair};
 ghost use Rattle.keep.specs.Law.{Reads};
 ghost use Rattle.endpoint.specs.Calls.{Stays};
+ghost use Rattle.endpoint.specs.Matches.{AllMatch};
 ghost use Rattle.keep.specs.Tables.{Messages};
 ghost use Rattle.stomp_client.specs.declared.session.Stage.TheVariants.{Connected};
 ghost use Rattle.relay.specs.Filling.{marks_of, send_state, SendsLetters, StopsSending};
@@ -81,10 +82,11 @@ impl Relay {
         self.rows = 0;
     }
 
-    /// Lets the next filling look from the first row of the outbox on, for whichever service it is. What was sent stays
-    /// known, so that nothing is sent twice. It allocates nothing.
+    /// Lets the next [`Relay::resume`] look from the first row of the outbox on, as [`Relay::fill`] does, for whichever
+    /// service it is. What was sent stays known, so that nothing is sent twice. It allocates nothing.
     #[tactic(auto, using(crate::proofs::Knowing::knows_start))]
     pub fn look_anew(&mut self)
+        ensures behind { self.new.behind ≡ None }
         ensures marks { self.new.marks ≡ self.old.marks }
         ensures knows { (rows : ℕ) (messages : Messages) → KnowsRows self.new rows messages }
     {
@@ -184,13 +186,9 @@ impl Relay {
     /// this connection, at most `limit`, and answers how many. Each SEND has the next receipt number, with the letter's
     /// number as its tag. Before CONNECTED it sends none, and the store isn't called.
     ///
-    /// Calls of the store: one `unsettled` or more, each for a page of rows. It begins after the last row that was
-    /// sent. Where the journal has grown since the last filling, one `journal` comes first, and of what is before that
-    /// row it looks at what the new rows' entities sent; where more than 256 rows came, it looks from the first row on.
-    /// What it sends is known where the cursor is right: of each content of this service's store that it went over
-    /// ([`each_deed_is_known`]).
-    ///
-    /// [`each_deed_is_known`]: crate::each_deed_is_known
+    /// It looks from the first row of the outbox on, so that no row is passed over whichever endpoint it is: another
+    /// service's, or one over a store that was restored from a backup. [`Relay::resume`] reads less, where a relay serves
+    /// one service alone. Calls of the store: `unsettled` for each page of 64 rows, once or more.
     ///
     /// # Errors
     /// `Closed` after the end of the session: nothing is sent, and the store isn't called. `StoreFailed`, `Memory` and
@@ -213,9 +211,53 @@ impl Relay {
             → Reads K.seen endpoint.old endpoint.new (λ _ _. ⊤) (store_end result) }
         ensures stays { Stays K.seen endpoint.old endpoint.new }
         ensures fills { client.old.client.stage ≡ Connected
+            → Fills ((K.seen endpoint.new).doubt ≡ 0) (K.seen endpoint.old).tables.unsettled limit
+            (send_state self.old client.old) (send_state self.new client.new) result }
+        ensures unused { (K.seen endpoint.old).usable ≡ false
+            → send_state self.new client.new ≡ send_state self.old client.old }
+        ensures knows { (K.seen endpoint.new).doubt ≡ 0 → AllMatch H.service (K.seen endpoint.old).may_leave
+            → KnowsAll H.service self.new (K.seen endpoint.new).may_leave }
+    {
+        // What the cursor tells is so of the service that was filled last, and no call shows that it is this one.
+        self.look_anew();
+        self.resume(client, endpoint, limit)
+    }
+
+    /// Sends what [`Relay::fill`] does where the cursor is right, with fewer reads: it begins after the last row that
+    /// was sent. For a relay that serves one service alone, whose journal only grows.
+    ///
+    /// Where the journal has grown since the last filling, it reads the new rows by one `journal`, and of what is before
+    /// the cursor it looks at what their entities sent; where more than 256 rows came, it looks from the first row on.
+    /// Then `unsettled` as `fill`. The cursor is right of each content of this service's store that it went over
+    /// ([`each_deed_is_known`]); of another service rows may be passed over. Without a cursor, as of a new relay, none
+    /// is.
+    ///
+    /// [`each_deed_is_known`]: crate::each_deed_is_known
+    ///
+    /// # Errors
+    /// As [`Relay::fill`].
+    pub fn resume<H, K>(
+        &mut self,
+        client: &mut ClientSession<u64>,
+        endpoint: &mut Endpoint<H, K>,
+        limit: usize,
+    ) -> Result<usize, RelayFault>
+    where
+        H: Handler,
+        K: Keep<State = H::State, Command = H::Command> + Drop,
+        ensures idle { IfSome (idle_answer client.old.client.stage) (λ answer. (result ≡ answer)
+            × (endpoint.new ≡ endpoint.old)
+            × (send_state self.new client.new ≡ send_state self.old client.old)) }
+        ensures read { client.old.client.stage ≡ Connected
+            → Reads K.seen endpoint.old endpoint.new (λ _ _. ⊤) (store_end result) }
+        ensures stays { Stays K.seen endpoint.old endpoint.new }
+        ensures fills { client.old.client.stage ≡ Connected
             → Fills (((K.seen endpoint.new).doubt ≡ 0) × KnowsAll H.service self.old (K.seen endpoint.old).may_leave)
             (K.seen endpoint.old).tables.unsettled limit (send_state self.old client.old)
             (send_state self.new client.new) result }
+        ensures anew { client.old.client.stage ≡ Connected → self.old.behind ≡ None
+            → Fills ((K.seen endpoint.new).doubt ≡ 0) (K.seen endpoint.old).tables.unsettled limit
+            (send_state self.old client.old) (send_state self.new client.new) result }
         ensures unused { (K.seen endpoint.old).usable ≡ false
             → send_state self.new client.new ≡ send_state self.old client.old }
         ensures knows { (K.seen endpoint.new).doubt ≡ 0 → KnowsAll H.service self.old (K.seen endpoint.old).may_leave

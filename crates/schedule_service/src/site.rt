@@ -348,7 +348,7 @@ where
     /// and the store isn't called.
     ///
     /// Outcomes: `Sent`, with how many; `Closed` where the connection isn't open; `Refused` as
-    /// [`Relay::fill`](relay::Relay::fill) tells it: the rows before stay sent. After 63 both connections are cut.
+    /// [`Relay::resume`](relay::Relay::resume) tells it: the rows before stay sent. After 63 both connections are cut.
     pub fn fill(&mut self, mail: &mut Mail, number: ConnectionNumber, limit: u64) -> Outcome
         ensures did { SiteStep K.seen H.service (Fills number limit) result self.old mail.old self.new mail.new }
         ensures doubt { DoubtStays K.seen self.old self.new }
@@ -376,7 +376,8 @@ where
         ensures stays { Stays (through K.seen) self.old.endpoint self.new.endpoint }
     {
         let limit = limit as usize;
-        let answer = channel.relay.fill(
+        // A connection's relay serves this service alone, so that its cursor is right of the outbox.
+        let answer = channel.relay.resume(
             &mut channel.connection.channel.client,
             &mut self.endpoint,
             limit,

@@ -21,6 +21,7 @@ class World:
         self.receipts = 0
         self.rows = 0
         self.waiting = []
+        self.word = "fill"  # or `resume`, which is to send the same of one service
 
     def commit(self, sender, receiver, count):
         pair = (sender, receiver)
@@ -54,7 +55,7 @@ class World:
         return len(letters)
 
     def fill(self, limit):
-        say(f"fill {limit}", str(self.due(limit)))
+        say(f"{self.word} {limit}", str(self.due(limit)))
 
     def forget(self):
         self.sent = set()
@@ -139,26 +140,27 @@ def many_pairs(world):
 
 def cursor(world):
     section("A cursor",
-            "Where the journal is as long as at the last filling, a filling begins behind the last row that was sent: "
+            "Where the journal is as long as at the last filling, `resume` begins after the last row that was sent: "
             "the store that fails at",
             "its second call serves it whole, and fails at the call behind it.")
+    world.word = "resume"
     many = len(world.outbox)
     world.forget()
     world.fill(many)
     say("arm 2")
     world.fill(many)
-    say("fill 64", STORE_FAILED)
+    say("resume 64", STORE_FAILED)
     say("reopen")
     note("A limit leaves it behind the last row of the limit, in the middle of a page too.")
     world.forget()
     world.fill(100)
     say("arm 2")
     world.fill(10)
-    say("fill 0", STORE_FAILED)
+    say("resume 0", STORE_FAILED)
     say("reopen")
     say("arm 2")
     world.due(64)
-    say("fill 80", STORE_FAILED)
+    say("resume 80", STORE_FAILED)
     say("reopen")
     say("arm 2")
     world.fill(16)
@@ -182,7 +184,7 @@ def cursor(world):
     world.rows += 1
     say("ingest stock/b order/o1 2", f"handled {world.rows}")
     say("arm 2")
-    say("fill 9", STORE_FAILED)
+    say("resume 9", STORE_FAILED)
     say("reopen")
     world.fill(9)
     world.shows()
@@ -207,7 +209,7 @@ def new_rows(world):
         world.commit(sender, receiver, 1)
         say(f"arm {calls + 1}")
         world.fill(9)
-        say("fill 0", STORE_FAILED)
+        say("resume 0", STORE_FAILED)
         say("reopen")
     world.shows()
     note("Senders before the cursor, at it and behind it, in the order of the outbox; a limit among them.")
@@ -222,7 +224,7 @@ def new_rows(world):
     world.commit("order/m104", "stock/b", 1)
     for call in (1, 2):
         say(f"arm {call}")
-        say("fill 9", STORE_FAILED)
+        say("resume 9", STORE_FAILED)
         say("reopen")
     world.fill(9)
     world.shows()
@@ -238,6 +240,7 @@ def new_rows(world):
 def failing(world):
     section("A store that fails",
             "Each call that a filling makes fails in turn: what was sent before stays sent, and no letter is left out.")
+    world.word = "fill"
     world.forget()
     pages = -(-len(world.outbox) // 64)
     for call in range(1, pages + 1):
@@ -267,7 +270,7 @@ def failing(world):
     say("outbox 1", STORE_FAILED)
     say("accept ERROR\\nmessage:why\\n\\n\\0", CLOSED)
     note("No such lines.")
-    for line in ("fill x", "commit order/o1 stock/b", "settle order/o1 stock/b -1", "fault client 1", "thing"):
+    for line in ("fill x", "resume x", "commit order/o1 stock/b", "settle order/o1 stock/b -1", "fault client 1", "thing"):
         say(line, "no such line")
 
 

@@ -1,7 +1,8 @@
 use Rattle.std.proofs.Common.{◌∙◌, ap, refl, arith}
 use Rattle.relay.specs.declared.relay.Relay.{Relay}
+use Rattle.relay.specs.Filling.{marks_of}
 use Rattle.relay.proofs.Knowing.{known_still}
-use Rattle.relay.proofs.Beginning.{none_upto, same_but, fills_there, fills_to, known_last, was_behind}
+use Rattle.relay.proofs.Beginning.{none_upto, same_but, known_or_none, fills_there, fills_to, known_last, was_behind}
 use Rattle.relay.proofs.Paging.{earlier, none_sent, same_connection, read_again, stays_again, same_tables, rise_on}
 use Rattle.relay.proofs.Paging.{rises_with}
 use Rattle.relay.proofs.relay.Relay.fill_connected.Goals as goal
@@ -50,8 +51,10 @@ returns-clause-fills g c =
           (same_tables g.K.Keep.seen c.args.endpoint.now c.read_news.new.endpoint c.fill_pages-sent.new.endpoint had d2
           clean.0)
           c.begin-reach.ensures.reach
+          (known_or_none c.in-Ok-read_news.news.items (marks_of c.args.self.now) _ c.read_news.new.self.behind
+          c.args.self.now.behind c.in-Ok-read_news.ensures.behind
           (c.in-Ok-read_news.ensures.news (earlier _ _ d2 clean.0) c.in-Ok.ensures.0
-          (c.in-Ok.ensures.1 (earlier _ _ d1 (earlier _ _ d2 clean.0))) clean.1),
+          (c.in-Ok.ensures.1 (earlier _ _ d1 (earlier _ _ d2 clean.0)))) clean.1),
     )) _ _
     (λ clean. same_tables g.K.Keep.seen c.args.endpoint.now c.read_news.new.endpoint c.fill_pages-sent.new.endpoint had
     d2 clean.0)
