@@ -1,5 +1,5 @@
 -- What a read of one service does, and what is shown of it.
-use Rattle.std.proofs.Common.{◌≡◌, ℕ, List, refl, sym, ◌∙◌, subst, arith}
+use Rattle.std.proofs.Common.{◌≡◌, ℕ, refl, sym, ◌∙◌, subst, arith}
 use Rattle.std.specs.Prelude.{Result, Ok, Err}
 use Rattle.std.specs.Global.{Vec}
 use Rattle.base.specs.Entity.{Entity}
@@ -20,7 +20,9 @@ use Rattle.schedule_runner.specs.Deeds.{Moment, Same}
 use Rattle.schedule_runner.specs.Looks.{shown_told, ReadsSite, StoreStays}
 use Rattle.schedule_runner.specs.Good.{MailIs}
 use Rattle.schedule_runner.specs.Passing.{Both, Passes}
-use Rattle.schedule_runner.specs.Shows.{TellsReading, Behind, Marks, MarkOf, RowOf, MayShow, ShowsLine}
+use Rattle.schedule_runner.specs.Shows.{TellsReading, TellsPair, Behind, Marks, MarkOf, RowOf, Returns, ReadsPair}
+use Rattle.schedule_runner.specs.Shows.{ShowsPair}
+use Rattle.schedule_runner.specs.declared.looking.PairTables.{PairTables}
 use Rattle.laws_stores.specs.Sight.{OrderTables, StockTables, AccountTables, orders_service, stocks_service}
 use Rattle.laws_stores.specs.Sight.{accounts_service}
 use Rattle.schedule_runner.proofs.Composing.{passes_map, passes_then}
@@ -152,21 +154,34 @@ module _ {KO KS KA : Type 0} (orders : KO → Seen OrderTables) (stocks : KS →
       (Both (TellsReading D o) Same)
       old new (λ did. (result, did, is)) (λ a b h. ((result, h.0, is), h.1))
 
-  -- a line is shown, and nothing changes
-  pub passes_line : (line : List ℕ) (o : Outcome) (w : W) → MayShow line o
-      → Passes orders stocks accounts (ShowsLine line o) (Both (ShowsLine line o) Same) w w
-  passes_line line o w may =
-      lift_stays (ShowsLine line o) w w (same_store orders w.purchasing) (same_store stocks w.warehouse)
-      (same_store accounts w.billing) (λ ok good. good) (λ Is h. h) (λ Is h. h) (λ Is h. h) (may, refl)
+  -- what the tables have of a pair was read, and is shown
+  pub passes_pair : (p : Pair) (result : Result PairTables Outcome) (o : Outcome) (old new : W) → TellsPair p result o
+      → Passes orders stocks accounts (ReadsPair orders stocks accounts p result)
+      (Both (ReadsPair orders stocks accounts p result) Same) old new
+      → Passes orders stocks accounts (ShowsPair orders stocks accounts p o)
+      (Both (ShowsPair orders stocks accounts p o) Same) old new
+  passes_pair p result o old new tells = passes_map orders stocks accounts (ReadsPair orders stocks accounts p result)
+      (ShowsPair orders stocks accounts p o)
+      (Both (ReadsPair orders stocks accounts p result) Same)
+      (Both (ShowsPair orders stocks accounts p o) Same)
+      old new (λ did. (result, did, tells)) (λ a b h. ((result, h.0, tells), h.1))
 
-  module _ (found kind : Kind) (same : found ≡ kind) (mark : Mark) (p : Pair) (Next : ℕ → Outcome → W → W → Type 0)
+  -- these are returned, and nothing changes
+  pub passes_returned : (tables : PairTables) (w : W)
+      → Passes orders stocks accounts (Returns tables (Ok tables)) (Both (Returns tables (Ok tables)) Same) w w
+  passes_returned tables w =
+      lift_stays (Returns tables (Ok tables)) w w (same_store orders w.purchasing) (same_store stocks w.warehouse)
+      (same_store accounts w.billing) (λ ok good. good) (λ Is h. h) (λ Is h. h) (λ Is h. h) (refl, refl)
+
+  module _ (found kind : Kind) (same : found ≡ kind) (mark : Mark) (p : Pair)
+      (Next : ℕ → Result PairTables Outcome → W → W → Type 0)
       (result : Result ℕ Outcome)
-      (o : Outcome) where
+      (r : Result PairTables Outcome) where
     abbrev Reading : Kind → W → W → Type 0
     Reading k = MarkOf orders stocks accounts k mark p result
 
     abbrev Whole : W → W → Type 0
-    Whole = Marks orders stocks accounts kind mark p Next o
+    Whole = Marks orders stocks accounts kind mark p Next r
 
     of_kind : (old mid : W) → Passes orders stocks accounts (Reading found) (Both (Reading found) Same) old mid
         → Passes orders stocks accounts (Reading kind) (Both (Reading kind) Same) old mid
@@ -175,25 +190,25 @@ module _ {KO KS KA : Type 0} (orders : KO → Seen OrderTables) (stocks : KS →
     -- a mark was read, and what comes behind it was done
     pub passes_next : (n : ℕ) (old mid new : W) → result ≡ Ok n
         → Passes orders stocks accounts (Reading found) (Both (Reading found) Same) old mid
-        → Passes orders stocks accounts (Next n o) (Both (Next n o) Same) mid new
+        → Passes orders stocks accounts (Next n r) (Both (Next n r) Same) mid new
         → Passes orders stocks accounts Whole (Both Whole Same) old new
     passes_next n old mid new is first next =
-        passes_then orders stocks accounts (Reading kind) (Next n o) Whole (Both (Reading kind) Same)
-        (Both (Next n o) Same) (Both Whole Same) old mid new
-        (λ did more. (result, mid, did, subst (λ r. Behind r Next o mid new) (sym is) more))
+        passes_then orders stocks accounts (Reading kind) (Next n r) Whole (Both (Reading kind) Same)
+        (Both (Next n r) Same) (Both Whole Same) old mid new
+        (λ did more. (result, mid, did, subst (λ x. Behind x Next r mid new) (sym is) more))
         (λ a b c did more. (
-          (result, b.world, did.0, subst (λ r. Behind r Next o b.world c.world) (sym is) more.0),
+          (result, b.world, did.0, subst (λ x. Behind x Next r b.world c.world) (sym is) more.0),
           more.1 ∙ did.1,
         ))
         (of_kind old mid first) next
 
     -- or it wasn't, and that is told
-    pub passes_fault : (old new : W) → result ≡ Err o
+    pub passes_fault : (told : Outcome) (old new : W) → result ≡ Err told → r ≡ Err told
         → Passes orders stocks accounts (Reading found) (Both (Reading found) Same) old new
         → Passes orders stocks accounts Whole (Both Whole Same) old new
-    passes_fault old new is first =
+    passes_fault told old new is tells first =
         passes_map orders stocks accounts (Reading kind) Whole (Both (Reading kind) Same) (Both Whole Same)
         old new
-        (λ did. (result, new, did, subst (λ r. Behind r Next o new new) (sym is) (refl, refl)))
-        (λ a b h. ((result, b.world, h.0, subst (λ r. Behind r Next o b.world b.world) (sym is) (refl, refl)), h.1))
+        (λ did. (result, new, did, subst (λ x. Behind x Next r new new) (sym is) (tells, refl)))
+        (λ a b h. ((result, b.world, h.0, subst (λ x. Behind x Next r b.world b.world) (sym is) (tells, refl)), h.1))
         (of_kind old new first)

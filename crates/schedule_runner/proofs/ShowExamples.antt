@@ -1,5 +1,5 @@
 -- Examples: what is shown of a world in which an order was placed.
-use Rattle.std.proofs.Common.{◌≡◌, ◌∙◌, ℕ, [], ◌∷◌, length, get_or, None, Result, Ok, Err, refl, sym, ap, subst, arith}
+use Rattle.std.proofs.Common.{◌≡◌, ◌∙◌, ℕ, [], length, get_or, None, Result, Ok, Err, refl, sym, ap, subst, arith}
 use Rattle.std.specs.Fmt.{digits}
 use Rattle.std.specs.Prelude.{codes}
 use Rattle.std.specs.Global.{Vec}
@@ -27,17 +27,34 @@ use Rattle.schedule_service.specs.declared.site.Site.{Site}
 use Rattle.schedule_runner.specs.declared.looking.Listing.TheVariants.{Frames, Journal}
 use Rattle.schedule_runner.specs.declared.looking.Mark.TheVariants.{Sent, Settled, Handled}
 use Rattle.schedule_runner.specs.Looks.{mark_of, IsRow, AreListed, read_told, shown_told, ReadsSite}
-use Rattle.schedule_runner.specs.Shows.{TellsReading, Behind, ShowsLine, RowOf, ListOf, MarkOf, Marks, ShowsPair}
-use Rattle.schedule_runner.specs.Shows.{ShowsSettled}
-use Rattle.schedule_runner.specs.Shows.{ShowsHandled}
+use Rattle.schedule_runner.specs.Shows.{TellsReading, TellsPair, Behind, Returns, RowOf, ListOf, MarkOf, ShowsPair}
+use Rattle.schedule_runner.specs.Shows.{ReadsHandled, ReadsSettled, ReadsPair}
+use Rattle.schedule_runner.specs.declared.looking.PairTables.{PairTables}
 use Rattle.schedule_runner.specs.Steps.{WorldStep}
 use Rattle.schedule_runner.proofs.PathExamples.{seen, store, TheWorld, world}
 use Rattle.laws_stores.proofs.Placed.{before, after}
+
+-- so many letters were sent, of which none is settled and none handled
+abbrev first : ℕ → PairTables
+first n = record { sent = n; settled = 0; handled = 0 }
+
+-- how many were sent, where that was read, and 0 where it wasn't
+abbrev sent_in : Result PairTables Outcome → ℕ
+sent_in (Ok tables) = tables.sent
+sent_in (Err told) = 0
+
+not_ok : (tables : PairTables) (o : Outcome) → Ok tables ≡ Err o → ⊥
+not_ok tables o same = absurd (cc)
 
 -- the number of a refusal
 abbrev number_of : Outcome → ℕ
 number_of (told.Refused n) = n
 number_of _ = 0
+
+-- what is told of a read that wasn't done, and a refusal with 0 where it was
+abbrev fault_in : Result PairTables Outcome → Outcome
+fault_in (Ok tables) = told.Refused 0
+fault_in (Err o) = o
 
 -- a service of no connection whose store has these tables
 module _ {H S C : Type 0} where
@@ -133,33 +150,44 @@ module _ (any : TheWorld) where
     λ h. not_read (λ t n. n ≡ mark_of Handled t (from_order bolts)) 1 empty (λ e. omega (arith, e)) h.0,
   )
 
-  -- behind a mark comes what is to come; where it wasn't read its fault alone is told
-  faults_end_it : Behind {KO = OrderTables} {KS = StockTables} {KA = AccountTables} (Ok 1) (λ n. ShowsLine (n ∷ []))
-      (told.Refused 64) w w
-      × Behind (Err (told.Refused 63)) (λ n. ShowsLine (n ∷ [])) (told.Refused 63) w w
-      × (Behind (Err (told.Refused 63)) (λ n. ShowsLine (n ∷ [])) (told.Refused 64) w w → ⊥)
-      × (Behind (Err (told.Refused 63)) (λ n. ShowsLine (n ∷ [])) (told.Refused 63) w earlier → ⊥)
-  faults_end_it = ((refl, refl), (refl, refl), λ h. other h.0, λ h. other_world h.1)
+  -- after a mark comes what is to come; where it wasn't read its fault alone is told
+  faults_end_it : Behind {KO = OrderTables} {KS = StockTables} {KA = AccountTables} (Ok 1) (λ n. Returns (first n))
+      (Ok (first 1)) w w
+      × Behind (Err (told.Refused 63)) (λ n. Returns (first n)) (Err (told.Refused 63)) w w
+      × (Behind (Err (told.Refused 63)) (λ n. Returns (first n)) (Err (told.Refused 64)) w w → ⊥)
+      × (Behind (Err (told.Refused 63)) (λ n. Returns (first n)) (Err (told.Refused 63)) w earlier → ⊥)
+      × (Behind (Err (told.Refused 63)) (λ n. Returns (first n)) (Ok (first 1)) w w → ⊥)
+  faults_end_it = (
+    (refl, refl),
+    (refl, refl),
+    λ h. let number : 64 ≡ 63 = ap (λ r. number_of (fault_in r)) h.0 in omega (arith, number),
+    λ h. other_world h.1,
+    λ h. let number : 0 ≡ 63 = ap (λ r. number_of (fault_in r)) h.0 in omega (arith, number),
+  )
     where
-      other : told.Refused 64 ≡ told.Refused 63 → ⊥
-      other h = let number : 64 ≡ 63 = ap number_of h in omega (arith, number)
-
       other_world : earlier ≡ w → ⊥
       other_world h =
           let row : 0 ≡ 1 = ap (λ (v : TheWorld). length v.purchasing.endpoint.keep.journal) h in omega (arith, row)
 
   -- ---- lines
 
-  -- the world stays where a line is shown, and no other line is
-  lines_are_shown : (line : Vec ℕ) → ShowsLine line.items (told.Shown line) w w
-      × ShowsLine line.items (told.Refused 64) w w
-      × (ShowsLine (10 ∷ line.items) (told.Shown line) w w → ⊥) × (ShowsLine line.items (told.Shown line) w earlier → ⊥)
-  lines_are_shown line = (
-    (refl, refl),
-    (refl, refl),
-    λ h. let more : length line.items ≡ length (10 ∷ line.items) = ap length h.0 in omega (arith, more),
-    λ h. let row : 0 ≡ 1 = ap (λ (v : TheWorld). length v.purchasing.endpoint.keep.journal) h.1 in omega (arith, row),
-  )
+  -- what the tables have of a pair is shown in its line, and in no other; a fault is told as it is
+  module _ (line : Vec ℕ) (is : line.items ≡ codes "pair order/o1 stock/bolts sent 1 settled 0 handled 0\n") where
+    lines_are_shown : TellsPair (from_order bolts) (Ok (first 1)) (told.Shown line)
+        × TellsPair (from_order bolts) (Ok (first 1)) (told.Refused 64)
+        × TellsPair (from_order bolts) (Err (told.Refused 63)) (told.Refused 63)
+        × (TellsPair (from_order bolts) (Ok (first 1)) (told.Refused 63) → ⊥)
+        × (TellsPair (from_order bolts) (Ok (first 2)) (told.Shown line) → ⊥)
+        × (TellsPair (from_order bolts) (Err (told.Refused 63)) (told.Refused 64) → ⊥)
+    unfolding digits same_entity same_pair
+    lines_are_shown = (
+      is,
+      refl,
+      refl,
+      λ h. omega (arith, h),
+      λ h. let digit : 49 ≡ 50 = ap (λ l. get_or l 31 0) (sym is ∙ h) in omega (arith, digit),
+      λ h. let number : 64 ≡ 63 = ap number_of h in omega (arith, number),
+    )
 
   -- the row of the placed order is shown, and it isn't shown as one that wasn't placed; a stock that did nothing has no
   -- row
@@ -231,60 +259,78 @@ module _ (any : TheWorld) where
 
   -- ---- a pair
 
-  -- one letter was sent, of which none is settled and none handled: of two services, one line
+  -- one letter was sent, of which none is settled and none handled: it is read of two services, and shown in one line
+  the_pair_is_read : ReadsPair seen seen seen (from_order bolts) (Ok (first 1)) w w
+      × ReadsPair seen seen seen (from_order bolts) (Err (told.Refused 64)) w w
+  unfolding same_entity same_pair
+  the_pair_is_read = (
+    (
+      Ok 1,
+      w,
+      (reads _ 1 after refl, refl, refl),
+      (Ok 0, w, (reads _ 0 after refl, refl, refl), (Ok 0, w, (reads _ 0 empty refl, refl, refl), (refl, refl))),
+    ),
+    (Err (told.Refused 64), w, (no_memory _ after, refl, refl), (refl, refl)),
+  )
+
   module _ (line : Vec ℕ) (is : line.items ≡ codes "pair order/o1 stock/bolts sent 1 settled 0 handled 0\n") where
     the_pair_is_shown : ShowsPair seen seen seen (from_order bolts) (told.Shown line) w w
         × ShowsPair seen seen seen (from_order bolts) (told.Refused 64) w w
     unfolding digits same_entity same_pair
     the_pair_is_shown = (
-      (
-        Ok 1,
-        w,
-        (reads _ 1 after refl, refl, refl),
-        (Ok 0, w, (reads _ 0 after refl, refl, refl), (Ok 0, w, (reads _ 0 empty refl, refl, refl), (is, refl))),
-      ),
-      (Err (told.Refused 64), w, (no_memory _ after, refl, refl), (refl, refl)),
+      (Ok (first 1), the_pair_is_read.0, is),
+      (Err (told.Refused 64), the_pair_is_read.1, refl),
     )
 
-  -- no line is shown that tells of two letters, whatever is read behind their mark
+  -- two letters are not read, whatever is read after their mark, and no line is shown that tells of two
+  sent_is : (n : ℕ) (mid : TheWorld) → MarkOf seen seen seen Order Sent (from_order bolts) (Ok n) w mid → n ≡ 1
+  unfolding same_entity same_pair
+  sent_is n mid mark =
+      read_is (λ t x. x ≡ mark_of Sent t (from_order bolts)) n after mid.purchasing mid.mail mark.0
+
+  by_handled : (n m : ℕ) (tables : PairTables) (a : TheWorld)
+      → ReadsHandled seen seen seen (from_order bolts) n m (Ok tables) a w → tables.sent ≡ n
+  by_handled n m tables a (Ok k, mid, mark, behind) = ap sent_in behind.0
+  by_handled n m tables a (Err o, mid, mark, behind) = absurd (not_ok tables o behind.0)
+
+  by_settled : (n : ℕ) (tables : PairTables) (a : TheWorld)
+      → ReadsSettled seen seen seen (from_order bolts) n (Ok tables) a w → tables.sent ≡ n
+  by_settled n tables a (Ok m, mid, mark, behind) = by_handled n m tables mid behind
+  by_settled n tables a (Err o, mid, mark, behind) = absurd (not_ok tables o behind.0)
+
+  no_other_pair_is_read : (tables : PairTables) → ReadsPair seen seen seen (from_order bolts) (Ok tables) w w
+      → tables.sent ≡ 1
+  no_other_pair_is_read tables (Ok n, mid, mark, behind) = by_settled n tables mid behind ∙ sent_is n mid mark
+  no_other_pair_is_read tables (Err o, mid, mark, behind) = absurd (not_ok tables o behind.0)
+
+  handled_fault : (n m : ℕ) (o : Outcome) (line : Vec ℕ) (a : TheWorld)
+      → ReadsHandled seen seen seen (from_order bolts) n m (Err o) a w → told.Shown line ≡ o → ⊥
+  handled_fault n m o line a (Ok k, mid, mark, behind) shown = not_ok _ o (sym behind.0)
+  handled_fault n m o line a (Err f, mid, mark, behind) shown =
+      not_read_shows _ f a.warehouse mid.warehouse a.mail mid.mail line mark.0 (shown ∙ ap fault_in behind.0)
+
+  settled_fault : (n : ℕ) (o : Outcome) (line : Vec ℕ) (a : TheWorld)
+      → ReadsSettled seen seen seen (from_order bolts) n (Err o) a w → told.Shown line ≡ o → ⊥
+  settled_fault n o line a (Ok m, mid, mark, behind) shown = handled_fault n m o line mid behind shown
+  settled_fault n o line a (Err f, mid, mark, behind) shown =
+      not_read_shows _ f a.purchasing mid.purchasing a.mail mid.mail line mark.0 (shown ∙ ap fault_in behind.0)
+
+  -- no fault of a read shows a line
+  pair_fault : (o : Outcome) (line : Vec ℕ) → ReadsPair seen seen seen (from_order bolts) (Err o) w w
+      → told.Shown line ≡ o → ⊥
+  pair_fault o line (Ok n, mid, mark, behind) shown = settled_fault n o line mid behind shown
+  pair_fault o line (Err f, mid, mark, behind) shown =
+      not_read_shows _ f w.purchasing mid.purchasing w.mail mid.mail line mark.0 (shown ∙ ap fault_in behind.0)
+
   module _ (line : Vec ℕ) (is : line.items ≡ codes "pair order/o1 stock/bolts sent 2 settled 0 handled 0\n") where
-    no_other_pair_is_shown : (ShowsPair seen seen seen (from_order bolts) (told.Shown line) w w → ⊥)
-        × (Marks seen seen seen Order Sent (from_order bolts) (λ n. ShowsLine (pair_line (from_order bolts) n 0 0))
-        (told.Shown line) w w
-        → ⊥)
+    no_other_pair_is_shown : ShowsPair seen seen seen (from_order bolts) (told.Shown line) w w → ⊥
     unfolding digits same_entity same_pair
-    no_other_pair_is_shown = (by_pair, by_line)
+    no_other_pair_is_shown = by_pair
       where
         differ : (m k : ℕ) → line.items ≡ pair_line (from_order bolts) 1 m k → ⊥
         differ m k same = let digit : 50 ≡ 49 = ap (λ l. get_or l 31 0) (sym is ∙ same) in omega (arith, digit)
 
-        unlike : (n m k : ℕ) → n ≡ 1 → line.items ≡ pair_line (from_order bolts) n m k → ⊥
-        unlike n m k one same = differ m k (subst (λ x. line.items ≡ pair_line (from_order bolts) x m k) one same)
-
-        sent_is : (n : ℕ) (mid : TheWorld) → MarkOf seen seen seen Order Sent (from_order bolts) (Ok n) w mid → n ≡ 1
-        sent_is n mid mark =
-            read_is (λ t x. x ≡ mark_of Sent t (from_order bolts)) n after mid.purchasing mid.mail mark.0
-
-        by_handled : (n m : ℕ) → n ≡ 1 → (a : TheWorld)
-            → ShowsHandled seen seen seen (from_order bolts) n m (told.Shown line) a w → ⊥
-        by_handled n m one a (Ok k, mid, mark, behind) = unlike n m k one behind.0
-        by_handled n m one a (Err o, mid, mark, behind) =
-            not_read_shows _ o a.warehouse mid.warehouse a.mail mid.mail line mark.0 behind.0
-
-        by_settled : (n : ℕ) → n ≡ 1 → (a : TheWorld)
-            → ShowsSettled seen seen seen (from_order bolts) n (told.Shown line) a w → ⊥
-        by_settled n one a (Ok m, mid, mark, behind) = by_handled n m one mid behind
-        by_settled n one a (Err o, mid, mark, behind) =
-            not_read_shows _ o a.purchasing mid.purchasing a.mail mid.mail line mark.0 behind.0
-
         by_pair : ShowsPair seen seen seen (from_order bolts) (told.Shown line) w w → ⊥
-        by_pair (Ok n, mid, mark, behind) = by_settled n (sent_is n mid mark) mid behind
-        by_pair (Err o, mid, mark, behind) =
-            not_read_shows _ o w.purchasing mid.purchasing w.mail mid.mail line mark.0 behind.0
-
-        by_line : Marks seen seen seen Order Sent (from_order bolts) (λ n. ShowsLine
-            (pair_line (from_order bolts) n 0 0))
-            (told.Shown line) w w → ⊥
-        by_line (Ok n, mid, mark, behind) = unlike n 0 0 (sent_is n mid mark) behind.0
-        by_line (Err o, mid, mark, behind) =
-            not_read_shows _ o w.purchasing mid.purchasing w.mail mid.mail line mark.0 behind.0
+        by_pair (Ok tables, read, shows) = differ tables.settled tables.handled (subst (λ n. line.items
+            ≡ pair_line (from_order bolts) n tables.settled tables.handled) (no_other_pair_is_read tables read) shows)
+        by_pair (Err o, read, shows) = pair_fault o line read shows

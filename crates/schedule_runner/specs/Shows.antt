@@ -15,6 +15,7 @@ use Rattle.schedule_shows.specs.Printed.{shown_order_command, shown_stock_comman
 use Rattle.schedule_runner.specs.declared.looking.Listing.{Listing}
 use Rattle.schedule_runner.specs.declared.looking.Mark.{Mark}
 use Rattle.schedule_runner.specs.declared.looking.Mark.TheVariants.{Sent, Settled, Handled}
+use Rattle.schedule_runner.specs.declared.looking.PairTables.{PairTables}
 use Rattle.schedule_runner.specs.declared.world.World.{World}
 use Rattle.schedule_runner.specs.Looks.{mark_of, IsRow, AreListed, shown_told, ReadsSite}
 use Rattle.laws_stores.specs.Sight.{OrderTables, StockTables, AccountTables}
@@ -25,6 +26,15 @@ MayShow line (Shown lines) = lines.items ≡ line
 MayShow line (Refused n) = n ≡ 64
 MayShow line _ = ⊥
 
+-- the line that shows what the tables have of a pair
+abbrev pub line_of : Pair → PairTables → List ℕ
+line_of p tables = pair_line p tables.sent tables.settled tables.handled
+
+-- that line is shown of what was read, or the outcome of its fault told
+abbrev pub TellsPair : Pair → Result PairTables Outcome → Outcome → Type 0
+TellsPair p (Ok tables) o = MayShow (line_of p tables) o
+TellsPair p (Err told) o = o ≡ told
+
 module _ {KO KS KA : Type 0} where
   -- what was read is shown, or the outcome of its fault told
   abbrev pub TellsReading : (Result (Vec ℕ) Outcome → (a b : World KO KS KA) → Type 0) → Outcome
@@ -32,14 +42,15 @@ module _ {KO KS KA : Type 0} where
       → Type 0
   TellsReading Reads o a b = (result : Result (Vec ℕ) Outcome) × Reads result a b × (o ≡ shown_told result)
 
-  -- behind a mark comes this; or the outcome of its fault is told
-  abbrev pub Behind : Result ℕ Outcome → (ℕ → Outcome → (a b : World KO KS KA) → Type 0) → Outcome
-      → (mid b : World KO KS KA) → Type 0
-  Behind (Ok n) Next o mid b = Next n o mid b
-  Behind (Err told) Next o mid b = (o ≡ told) × (b ≡ mid)
+  -- after a mark comes this; or the outcome of its fault is told
+  abbrev pub Behind : Result ℕ Outcome → (ℕ → Result PairTables Outcome → (a b : World KO KS KA) → Type 0)
+      → Result PairTables Outcome → (mid b : World KO KS KA) → Type 0
+  Behind (Ok n) Next r mid b = Next n r mid b
+  Behind (Err told) Next r mid b = (r ≡ Err told) × (b ≡ mid)
 
-  abbrev pub ShowsLine : List ℕ → Outcome → (a b : World KO KS KA) → Type 0
-  ShowsLine line o a b = MayShow line o × (b ≡ a)
+  -- these are returned, and nothing changes
+  abbrev pub Returns : PairTables → Result PairTables Outcome → (a b : World KO KS KA) → Type 0
+  Returns tables r a b = (r ≡ Ok tables) × (b ≡ a)
 
 module _ {KO KS KA : Type 0} (orders : KO → Seen OrderTables) (stocks : KS → Seen StockTables)
     (accounts : KA → Seen AccountTables) where
@@ -78,18 +89,23 @@ module _ {KO KS KA : Type 0} (orders : KO → Seen OrderTables) (stocks : KS →
   MarkOf Account mark p = ReadsBilling (λ t n. n ≡ mark_of mark t p)
 
   -- a mark is read, and then comes this
-  abbrev pub Marks : Kind → Mark → Pair → (ℕ → Outcome → (a b : World KO KS KA) → Type 0) → Outcome
-      → (a b : World KO KS KA) → Type 0
-  Marks kind mark p Next o a b = (result : Result ℕ Outcome) × (mid : World KO KS KA) × MarkOf kind mark p result a mid
-      × Behind result Next o mid b
+  abbrev pub Marks : Kind → Mark → Pair → (ℕ → Result PairTables Outcome → (a b : World KO KS KA) → Type 0)
+      → Result PairTables Outcome → (a b : World KO KS KA) → Type 0
+  Marks kind mark p Next r a b = (result : Result ℕ Outcome) × (mid : World KO KS KA) × MarkOf kind mark p result a mid
+      × Behind result Next r mid b
 
   -- how many letters of a pair were handled, of which so many were sent and so many settled
-  abbrev pub ShowsHandled : Pair → ℕ → ℕ → Outcome → (a b : World KO KS KA) → Type 0
-  ShowsHandled p sent settled = Marks p.to.kind Handled p (λ handled. ShowsLine (pair_line p sent settled handled))
+  abbrev pub ReadsHandled : Pair → ℕ → ℕ → Result PairTables Outcome → (a b : World KO KS KA) → Type 0
+  ReadsHandled p sent settled = Marks p.to.kind Handled p
+      (λ handled. Returns (record { sent = sent; settled = settled; handled = handled }))
 
-  abbrev pub ShowsSettled : Pair → ℕ → Outcome → (a b : World KO KS KA) → Type 0
-  ShowsSettled p sent = Marks p.from.kind Settled p (λ settled. ShowsHandled p sent settled)
+  abbrev pub ReadsSettled : Pair → ℕ → Result PairTables Outcome → (a b : World KO KS KA) → Type 0
+  ReadsSettled p sent = Marks p.from.kind Settled p (λ settled. ReadsHandled p sent settled)
 
-  -- the marks of a pair: the sender's service tells what was sent and settled, the receiver's what was handled
+  -- what the tables have of a pair: the sender's service tells what was sent and settled, the receiver's what was handled
+  abbrev pub ReadsPair : Pair → Result PairTables Outcome → (a b : World KO KS KA) → Type 0
+  ReadsPair p = Marks p.from.kind Sent p (λ sent. ReadsSettled p sent)
+
+  -- and that is shown
   abbrev pub ShowsPair : Pair → Outcome → (a b : World KO KS KA) → Type 0
-  ShowsPair p = Marks p.from.kind Sent p (λ sent. ShowsSettled p sent)
+  ShowsPair p o a b = (result : Result PairTables Outcome) × ReadsPair p result a b × TellsPair p result o

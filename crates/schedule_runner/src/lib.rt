@@ -8,6 +8,9 @@
 //! store failed it holds of each content that a stop may leave, in every combination; and where memory was refused to
 //! the outcomes, of the steps that were made.
 //!
+//! Between steps, [`World::tables`] reads what two services' tables have of a pair, [`World::journal`] a service's
+//! journal, and [`World::agreement`] whether the partners of all orders agree.
+//!
 //! ```rust
 //! pub fn an_open_connection_stays_open(
 //!     world: &mut World<PlainKeep<Orders>, PlainKeep<Stocks>, PlainKeep<Accounts>>,
@@ -28,4 +31,5 @@ mod shows;
 mod world;
 
 pub use acting::ServiceEvent;
+pub use looking::PairTables;
 pub use world::World;

@@ -40,6 +40,18 @@ pub enum Mark {
     Handled,
 }
 
+/// What the tables of two services have of a pair: the sender's how many letters it sent and how many of them are
+/// settled, the receiver's how many it handled.
+#[derive(Clone, Copy, Debug, PartialEq, Eq)]
+pub struct PairTables {
+    /// How many letters were sent.
+    pub sent: u64,
+    /// How many of them are settled.
+    pub settled: u64,
+    /// How many were handled.
+    pub handled: u64,
+}
+
 /// The line of an entity's row. One read of the store.
 fn row_line<H, K>(
     alloc: Global,

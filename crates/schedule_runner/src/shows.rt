@@ -4,13 +4,12 @@ ghost use Rattle.schedule_runner.specs.Agreeing.{AsksAll, FindsAgreement, TellsA
 ghost use Rattle.schedule_runner.specs.Agreeing.{agreement_told};
 ghost use Rattle.schedule_runner.specs.Deeds.{Same};
 ghost use Rattle.schedule_runner.specs.Passing.{Both, Passes};
-ghost use Rattle.schedule_runner.specs.Shows.{TellsReading, RowOf, ListOf, MarkOf, MayShow, ShowsHandled, ShowsSettled};
-ghost use Rattle.schedule_runner.specs.Shows.{ShowsPair};
-ghost use Rattle.schedule_shows.specs.Printed.{pair_line};
+ghost use Rattle.schedule_runner.specs.Shows.{TellsReading, RowOf, ListOf, MarkOf, MayShow, ReadsHandled, ReadsSettled};
+ghost use Rattle.schedule_runner.specs.Shows.{ReadsPair, ShowsPair, line_of};
 ghost use Rattle.std.specs.Prelude.{◌≡◌};
 
 use crate::World;
-use crate::looking::{Listing, Mark, look_at_list, look_at_mark, look_at_row, shown};
+use crate::looking::{Listing, Mark, PairTables, look_at_list, look_at_mark, look_at_row, shown};
 use base::{Entity, Kind, Pair};
 use billing::{Account, Accounts};
 use endpoint::EndFault;
@@ -24,10 +23,10 @@ use trade::{AccountCommand, OrderCommand, StockCommand};
 use warehouse::{Stock, Stocks};
 
 /// The line of a pair's marks, or 64 where memory was refused.
-fn show_pair(alloc: Global, pair: &Pair, sent: u64, settled: u64, handled: u64) -> Outcome
-    ensures { MayShow (pair_line pair.now sent settled handled) result }
+fn show_pair(alloc: Global, pair: &Pair, tables: &PairTables) -> Outcome
+    ensures { MayShow (line_of pair.now tables.now) result }
 {
-    match show_marks(alloc, pair, sent, settled, handled) {
+    match show_marks(alloc, pair, tables.sent, tables.settled, tables.handled) {
         Ok(lines) => Outcome::Shown(lines),
         // 64 as of the endpoint: out of memory in the read or in the printing, a line is refused alike.
         Err(_) => Outcome::Refused(64),
@@ -134,27 +133,54 @@ where
         }
     }
 
-    /// How many letters of a pair were handled, and with it the line.
-    fn pair_handled(&mut self, pair: &Pair, sent: u64, settled: u64) -> Outcome
-        ensures { Passes KO.seen KS.seen KA.seen (ShowsHandled KO.seen KS.seen KA.seen pair.now sent settled result)
-            (Both (ShowsHandled KO.seen KS.seen KA.seen pair.now sent settled result) Same) self.old self.new }
+    /// How many letters of a pair were handled, of which so many were sent and so many are settled.
+    fn tables_handled(
+        &mut self,
+        pair: &Pair,
+        sent: u64,
+        settled: u64,
+    ) -> Result<PairTables, Outcome>
+        ensures { Passes KO.seen KS.seen KA.seen (ReadsHandled KO.seen KS.seen KA.seen pair.now sent settled result)
+            (Both (ReadsHandled KO.seen KS.seen KA.seen pair.now sent settled result) Same) self.old self.new }
     {
         // The receiver's own count: it may be above what the sender knows to be settled.
         match self.mark(pair.to.kind(), Mark::Handled, pair) {
-            Ok(handled) => show_pair(self.alloc, pair, sent, settled, handled),
-            Err(told) => told,
+            Ok(handled) => Ok(PairTables {
+                sent,
+                settled,
+                handled,
+            }),
+            Err(told) => Err(told),
         }
     }
 
     /// How many letters of a pair are settled, and so on.
-    fn pair_settled(&mut self, pair: &Pair, sent: u64) -> Outcome
-        ensures { Passes KO.seen KS.seen KA.seen (ShowsSettled KO.seen KS.seen KA.seen pair.now sent result)
-            (Both (ShowsSettled KO.seen KS.seen KA.seen pair.now sent result) Same) self.old self.new }
+    fn tables_settled(&mut self, pair: &Pair, sent: u64) -> Result<PairTables, Outcome>
+        ensures { Passes KO.seen KS.seen KA.seen (ReadsSettled KO.seen KS.seen KA.seen pair.now sent result)
+            (Both (ReadsSettled KO.seen KS.seen KA.seen pair.now sent result) Same) self.old self.new }
     {
         // A function for each read: the search for a proof is limited, and so one goal has one call of a store.
         match self.mark(pair.from.kind(), Mark::Settled, pair) {
-            Ok(settled) => self.pair_handled(pair, sent, settled),
-            Err(told) => told,
+            Ok(settled) => self.tables_handled(pair, sent, settled),
+            Err(told) => Err(told),
+        }
+    }
+
+    /// What the tables of the sender's service and of the receiver's have of a pair, which `Event::Pair` prints. Three
+    /// reads, each of one store: what was sent, what is settled, and what was handled. Nothing changes but what a read
+    /// that fails leaves.
+    ///
+    /// # Errors
+    /// The outcome of the first read that wasn't done: `Refused` with 63, and both connections of that service are cut,
+    /// with 64 or with 65. The reads after it aren't made.
+    pub fn tables(&mut self, pair: &Pair) -> Result<PairTables, Outcome>
+        ensures { Passes KO.seen KS.seen KA.seen (ReadsPair KO.seen KS.seen KA.seen pair.now result)
+            (Both (ReadsPair KO.seen KS.seen KA.seen pair.now result) Same) self.old self.new }
+    {
+        // The order of the three reads is promised, since `fail` counts them.
+        match self.mark(pair.from.kind(), Mark::Sent, pair) {
+            Ok(sent) => self.tables_settled(pair, sent),
+            Err(told) => Err(told),
         }
     }
 
@@ -163,9 +189,8 @@ where
         ensures { Passes KO.seen KS.seen KA.seen (ShowsPair KO.seen KS.seen KA.seen pair.now result)
             (Both (ShowsPair KO.seen KS.seen KA.seen pair.now result) Same) self.old self.new }
     {
-        // The order of the three reads is promised, since `fail` counts them.
-        match self.mark(pair.from.kind(), Mark::Sent, pair) {
-            Ok(sent) => self.pair_settled(pair, sent),
+        match self.tables(pair) {
+            Ok(tables) => show_pair(self.alloc, pair, &tables),
             Err(told) => told,
         }
     }

@@ -1,20 +1,13 @@
-use Rattle.std.proofs.Common.{ℕ}
-use Rattle.schedule_runner.specs.declared.looking.Mark.TheVariants.{Sent}
-use Rattle.schedule_runner.specs.Shows.{ShowsSettled}
-use Rattle.schedule_runner.proofs.Reading.{passes_next, passes_fault}
+use Rattle.std.proofs.Common.{refl}
+use Rattle.schedule_runner.proofs.Reading.{passes_pair}
 use Rattle.schedule_runner.proofs.world.World.pair.Goals as goal
 
 pub returns-in-Ok : goal.returns-in-Ok
 returns-in-Ok g c =
-    passes_next g.KO.Keep.seen g.KS.Keep.seen g.KA.Keep.seen c.kind.result c.args.pair.now.from.kind c.kind.ensures.kind
-    Sent c.args.pair.now
-    (λ (sent : ℕ). ShowsSettled g.KO.Keep.seen g.KS.Keep.seen g.KA.Keep.seen c.args.pair.now sent)
-    c.mark.result c.pair_settled.result c.in-Ok.sent c.args.self.now c.mark.new.self c.pair_settled.new.self c.in-Ok.is
-    c.mark.ensures
-    c.pair_settled.ensures
+    passes_pair g.KO.Keep.seen g.KS.Keep.seen g.KA.Keep.seen c.args.pair.now c.tables.result c.show_pair.result
+    c.args.self.now c.tables.new.self (rw c.in-Ok.is c.show_pair.ensures) c.tables.ensures
 
 pub returns-in-Err : goal.returns-in-Err
-returns-in-Err g c = passes_fault g.KO.Keep.seen g.KS.Keep.seen g.KA.Keep.seen c.kind.result c.args.pair.now.from.kind
-    c.kind.ensures.kind Sent c.args.pair.now
-    (λ (sent : ℕ). ShowsSettled g.KO.Keep.seen g.KS.Keep.seen g.KA.Keep.seen c.args.pair.now sent)
-    c.mark.result c.in-Err.told c.args.self.now c.mark.new.self c.in-Err.is c.mark.ensures
+returns-in-Err g c =
+    passes_pair g.KO.Keep.seen g.KS.Keep.seen g.KA.Keep.seen c.args.pair.now c.tables.result c.in-Err.told
+    c.args.self.now c.tables.new.self (rw c.in-Err.is refl) c.tables.ensures
