@@ -4,9 +4,11 @@
 ghost use Rattle.std.specs.Prelude.{◌≡◌, ◌++◌, [], ℕ, List, Option};
 ghost use Rattle.stomp_frame.specs.Frames.{Content};
 ghost use Rattle.stomp_frame.specs.declared.command.Command.TheVariants.{Connect};
+ghost use Rattle.base.specs.declared.entity.Kind.{Kind};
 ghost use Rattle.told_lock.specs.Rule.{Every};
 ghost use Rattle.shared_endpoint.specs.Keys.{Any};
 ghost use Rattle.service_workers.specs.Conns.{IsNewConnBy};
+ghost use Rattle.service_workers.specs.Owing.{Owes};
 ghost use Rattle.service_workers.specs.Reads.{CameOn, HasGiven, IsUnread, ReadsLast, ReadsOnly};
 ghost use Rattle.service_workers.specs.Taking.{TakingStands};
 ghost use Rattle.service_workers.specs.Written.{ConnectionsStand, HasSpoken, WrittenStands, WritesOfSession};
@@ -28,6 +30,18 @@ where
     ensures goes_on { (shown : List K) (c d : Conn L) → HasSpoken L.put_gives L.take_gives K.seen H.service shown c →
         WritesOfSession L.put_gives L.take_gives H.service.kind c d →
         HasSpoken L.put_gives L.take_gives K.seen H.service shown d }
+{}
+
+/// A new connection owes no answer. One that gives nothing and writes only frames of the session, as where it takes leave, owes as
+/// many as before. So a run may begin with either.
+pub fn new_connections_owe_no_answer<L>()
+where
+    L: Link + Drop,
+    ensures new { (connect : Content) (prefetch : Option ℕ) (link : L) (c : Conn L) → connect.command ≡ Connect →
+        IsNewConnBy connect prefetch link c → IsUnread c → Owes L.put_gives L.take_gives 0 c }
+    ensures goes_on { (owed : ℕ) (mine : Kind) (c d : Conn L) → ReadsOnly L.put_gives L.take_gives [] c d →
+        WritesOfSession L.put_gives L.take_gives mine c d → Owes L.put_gives L.take_gives owed c →
+        Owes L.put_gives L.take_gives owed d }
 {}
 
 /// What was written stands by the journal in the end, whatever was written meanwhile, and whatever MESSAGEs came: each letter is
