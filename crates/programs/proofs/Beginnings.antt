@@ -1,5 +1,5 @@
 -- What the clauses of the world's steps say of a run in a world that was just opened.
-use Rattle.std.proofs.Common.{List}
+use Rattle.std.proofs.Common.{ℕ, List, Option, Result, Ok, refl}
 use Rattle.std.proofs.Math.Logic.{∥∥₁_map}
 use Rattle.keep.specs.Seen.{Seen}
 use Rattle.schedule_text.specs.declared.event.Event.{Event}
@@ -13,7 +13,11 @@ use Rattle.schedule_runner.specs.Told.{Told}
 use Rattle.schedule_runner.specs.declared.world.World.{World}
 use Rattle.schedule_runner.proofs.Righting.{opened_good}
 use Rattle.schedule_io.specs.Opened.{AreNew, AreOpened, AreLeftBy}
-use Rattle.programs.specs.Runs.{IsBeginning, HasRun}
+use Rattle.schedule_io.specs.Ends.{AreRun, IsRunOf}
+use Rattle.schedule_io.specs.declared.fault.RunFault.{RunFault}
+use Rattle.schedule_io.specs.declared.fault.StoresFault.{StoresFault}
+use Rattle.schedule_io.proofs.Endings.{are_run_as}
+use Rattle.programs.specs.Runs.{IsBeginning, HasRun, HasLeft}
 
 -- a stop of stores that were opened leaves what it may leave of them
 pub opened_so : (s : Sight) → AreNew s → AreOpened (AreLeftBy s) s
@@ -47,6 +51,19 @@ module _ {KO KS KA : Type 0} (orders : KO → Seen OrderTables) (stocks : KS →
           told = λ t may. ∥∥₁_map (told now start.matching t may) (λ led. (led.before, led.was, led.leads));
         };
   }
+
+  -- and it left its last world
+  pub has_left : (events : List Event) (outcomes : List Outcome) (first last : World KO KS KA)
+      → IsBeginning orders stocks accounts Found first
+      → StaysClean orders stocks accounts first last → StaysMatching orders stocks accounts first last
+      → StaysGood orders stocks accounts first last
+      → Agrees orders stocks accounts first last
+      → IsPath (Makes (Passed orders stocks accounts)) events outcomes first last
+      → Told orders stocks accounts events outcomes first last
+      → HasLeft orders stocks accounts Found last events outcomes
+  unfolding has_run
+  has_left events outcomes first last began clean stays better agrees path told =
+      (has_run events outcomes first last began clean stays better agrees path told, refl)
 
 -- what is known of the tables that are found may be said otherwise
 module _ {KO KS KA : Type 0} (orders : KO → Seen OrderTables) (stocks : KS → Seen StockTables)
@@ -87,3 +104,25 @@ module _ {KO KS KA : Type 0} (orders : KO → Seen OrderTables) (stocks : KS →
       → HasRun orders stocks accounts Found events outcomes
   run_found s opened =
       run_as orders stocks accounts (AreLeftBy s) Found (λ t left. opened.found left.0 t left.1)
+
+  -- and of the world that it left
+  pub left_found : (s : Sight) → AreOpened Found s → (left : World KO KS KA) → (events : List Event)
+      (outcomes : List Outcome)
+      → HasLeft orders stocks accounts (AreLeftBy s) left events outcomes
+      → HasLeft orders stocks accounts Found left events outcomes
+  unfolding run_found run_as
+  left_found s opened left events outcomes run = (run_found s opened events outcomes run.0, run.1)
+
+  -- a run is one whatever world it has left
+  pub ran : (left : World KO KS KA) (Fails : StoresFault → Type 0) (events : List Event) (out out' : Option (List ℕ))
+      (r : Result Unit RunFault)
+      → AreRun (HasLeft orders stocks accounts Found left) Fails events out out' r
+      → AreRun (HasRun orders stocks accounts Found) Fails events out out' r
+  ran left Fails = are_run_as (HasLeft orders stocks accounts Found left) (HasRun orders stocks accounts Found) Fails
+      Fails (λ events outcomes run. run.0) (λ fault fails. fails)
+
+  pub ran_whole : (left : World KO KS KA) (Fails : StoresFault → Type 0) (text : List ℕ) (out out' : Option (List ℕ))
+      → IsRunOf (HasLeft orders stocks accounts Found left) Fails text out out' (Ok tt)
+      → IsRunOf (HasRun orders stocks accounts Found) Fails text out out' (Ok tt)
+  ran_whole left Fails text out out' run =
+      (run.0, record { events = run.1.events; read = run.1.read; ran = run.1.ran.0 }, run.2)

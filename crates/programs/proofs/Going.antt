@@ -18,9 +18,9 @@ use Rattle.schedule_runner.proofs.Advancing.{SoFar, far_none, far_more}
 use Rattle.schedule_runner.proofs.Journaling.{goes_told}
 use Rattle.schedule_runner.proofs.Righting.{good_agree}
 use Rattle.schedule_io.specs.Ends.{AreRun, lines_of}
-use Rattle.programs.specs.Runs.{IsBeginning, HasRun}
+use Rattle.programs.specs.Runs.{IsBeginning, HasLeft}
 use Rattle.schedule_io.specs.declared.fault.RunFault.TheVariants.{Device}
-use Rattle.programs.proofs.Beginnings.{has_run}
+use Rattle.programs.proofs.Beginnings.{has_left}
 use Rattle.streams.specs.Written.{AppendsPart}
 use Rattle.streams.proofs.Writes.{appends_then, appends_nothing, appends_keeps, part_whole, part_keeps}
 
@@ -75,24 +75,24 @@ module _ {KO KS KA : Type 0} (orders : KO → Seen OrderTables) (stocks : KS →
   module _ (Found : AllTables → Type 0) (first : W) (began : IsBeginning orders stocks accounts Found first) where
     run_so_far : (events : List Event) (index : ℕ) (outcomes : List Outcome) (last : W)
         → SoFar orders stocks accounts events index [] outcomes first last
-        → HasRun orders stocks accounts Found (take (length outcomes) events) outcomes
+        → HasLeft orders stocks accounts Found last (take (length outcomes) events) outcomes
     run_so_far events index outcomes last far =
         let p = far.passes in
-        let ran = has_run orders stocks accounts Found (take index events) far.made first last began p.clean p.matching
+        let ran = has_left orders stocks accounts Found (take index events) far.made first last began p.clean p.matching
         p.good (good_agree orders stocks accounts first last p.good) p.did
         (goes_told orders stocks accounts (take index events) far.made first last p.goes) in
-        subst (λ os. HasRun orders stocks accounts Found (take (length os) events) os) (sym far.appended)
-        (subst (λ n. HasRun orders stocks accounts Found (take n events) far.made) (sym far.count) ran)
+        subst (λ os. HasLeft orders stocks accounts Found last (take (length os) events) os) (sym far.appended)
+        (subst (λ n. HasLeft orders stocks accounts Found last (take n events) far.made) (sym far.count) ran)
 
     -- all events were made
     pub all_told : (events : List Event) (index : ℕ) (last : W) (old out new : Option (List ℕ))
         → index ≡ length events → ToldSoFar events index first last old out → Keeps out new
-        → AreRun (HasRun orders stocks accounts Found) (λ _. ⊥) events old new (Ok tt)
+        → AreRun (HasLeft orders stocks accounts Found last) (λ _. ⊥) events old new (Ok tt)
     all_told events index last old out new all told kept =
         let whole : take (length told.outcomes) events ≡ events =
         ap (λ n. take n events) (ap length told.far.appended ∙ told.far.count ∙ all) ∙ take-length events in (
           told.outcomes,
-          subst (λ es. HasRun orders stocks accounts Found es told.outcomes) whole
+          subst (λ es. HasLeft orders stocks accounts Found last es told.outcomes) whole
               (run_so_far events index told.outcomes last told.far),
           appends_keeps old out new (lines_of told.outcomes) told.written kept,
         )
@@ -100,7 +100,7 @@ module _ {KO KS KA : Type 0} (orders : KO → Seen OrderTables) (stocks : KS →
     -- the writer failed behind the last event
     pub not_flushed : (events : List Event) (index : ℕ) (last : W) (old out new : Option (List ℕ))
         → ToldSoFar events index first last old out → Keeps out new
-        → AreRun (HasRun orders stocks accounts Found) (λ _. ⊥) events old new (Err Device)
+        → AreRun (HasLeft orders stocks accounts Found last) (λ _. ⊥) events old new (Err Device)
     not_flushed events index last old out new told kept = (
       told.outcomes,
       run_so_far events index told.outcomes last told.far,
@@ -120,7 +120,7 @@ module _ {KO KS KA : Type 0} (orders : KO → Seen OrderTables) (stocks : KS →
         (old out new : Option (List ℕ))
         → index < length events → e ≡ get_or events index e → ToldSoFar events index first mid old out
         → Does e o mid last → AppendsPart out new (outcome_lines o)
-        → AreRun (HasRun orders stocks accounts Found) (λ _. ⊥) events old new (Err Device)
+        → AreRun (HasLeft orders stocks accounts Found last) (λ _. ⊥) events old new (Err Device)
     cut_off events e o index mid last old out new lt at told does part = (
       told.outcomes ++ o ∷ [],
       run_so_far events (index + 1) (told.outcomes ++ o ∷ []) last

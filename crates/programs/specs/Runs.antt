@@ -1,5 +1,5 @@
 -- What running events tells: three services over their stores, and the mail between them.
-use Rattle.std.specs.Prelude.{◌≡◌, List, None}
+use Rattle.std.specs.Prelude.{◌≡◌, ℕ, List, Option, None, Result, Ok, Err}
 use Rattle.keep.specs.Seen.{Seen}
 use Rattle.schedule_text.specs.declared.event.Event.{Event}
 use Rattle.schedule_text.specs.declared.outcome.Outcome.{Outcome}
@@ -13,7 +13,10 @@ use Rattle.schedule_runner.specs.Paths.{IsPath, Makes}
 use Rattle.schedule_runner.specs.Sight.{sight, StaysClean}
 use Rattle.schedule_runner.specs.Told.{AllTold}
 use Rattle.schedule_runner.specs.declared.world.World.{World}
+use Rattle.schedule_io.specs.Ends.{IsRunOf}
 use Rattle.schedule_io.specs.Opened.{AreOpened}
+use Rattle.schedule_io.specs.declared.fault.RunFault.{RunFault}
+use Rattle.schedule_io.specs.declared.fault.StoresFault.{StoresFault}
 
 -- A good start: the tables that were found match their journals, and those of all three are good together. Empty tables
 -- are so, and those that a good end left.
@@ -53,3 +56,13 @@ module _ {KO KS KA : Type 0} (orders : KO → Seen OrderTables) (stocks : KS →
     pub clean : StaysClean orders stocks accounts first last
     pub ended : IsGoodStart (sight orders stocks accounts first) → AreClean (sight orders stocks accounts last)
         → IsGoodEnd events outcomes first last
+
+  -- a run in which the last of these events left this world
+  abbrev pub HasLeft : (Found : AllTables → Type 0) → (left : World KO KS KA) → List Event → List Outcome → Type 0
+  HasLeft Found left events outcomes = (run : HasRun Found events outcomes) × (run.last ≡ left)
+
+  -- what running a text returns: the world that the last of its events left, or why not all of them were made
+  abbrev pub RunsText : (Found : AllTables → Type 0) → (Fails : StoresFault → Type 0) → (text : List ℕ)
+      → (old new : Option (List ℕ)) → Result (World KO KS KA) RunFault → Type 0
+  RunsText Found Fails text old new (Ok left) = IsRunOf (HasLeft Found left) Fails text old new (Ok tt)
+  RunsText Found Fails text old new (Err fault) = IsRunOf (HasRun Found) Fails text old new (Err fault)

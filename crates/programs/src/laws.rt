@@ -17,8 +17,8 @@ use purchasing::Orders;
 use schedule_io::{PlainStores, Stores};
 use warehouse::Stocks;
 
-/// Over tables in memory nothing is asked of a run: its start is good, no file is ever in doubt, and so its end is
-/// good. That a store can't be opened is never told.
+/// Over tables in memory nothing is asked of a run: its start is good, no file is in doubt, so its end is good, and
+/// each store opens.
 pub fn a_run_in_memory_ends_well()
     ensures ended { (events : List Event) (outcomes : List Outcome)
         (run : HasRun ⟦<PlainKeep<Orders> as Keep>⟧.seen ⟦<PlainKeep<Stocks> as Keep>⟧.seen

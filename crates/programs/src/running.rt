@@ -3,7 +3,7 @@
 ghost use Rattle.std.specs.Prelude.{IfOk, IfErr};
 ghost use Rattle.schedule_io.specs.Ends.{AreRun};
 ghost use Rattle.schedule_io.specs.Opened.{AreNew, AreLeftBy, shown};
-ghost use Rattle.programs.specs.Runs.{IsBeginning, HasRun};
+ghost use Rattle.programs.specs.Runs.{IsBeginning, HasLeft};
 
 use billing::Account;
 use endpoint::Endpoint;
@@ -51,7 +51,7 @@ pub fn open_world<S: Stores>(
 }
 
 /// Makes the events of a schedule, in order, over three stores that were just opened, and writes each outcome before the
-/// next event is made. No outcome is kept.
+/// next event is made. No outcome is kept. The world that is returned is what the last event that was made has left.
 ///
 /// # Errors
 /// `Device` where `out` failed: it took a beginning of what is told of the events that were made, and none was made after
@@ -61,14 +61,14 @@ pub fn run_events<O, S, A, W: Write>(
     keeps: (O, S, A),
     events: Vec<Event>,
     out: &mut W,
-) -> Result<(), RunFault>
+) -> (World<O, S, A>, Result<(), RunFault>)
 where
     O: Keep<State = Option<Order>, Command = OrderCommand> + Drop,
     S: Keep<State = Stock, Command = StockCommand> + Drop,
     A: Keep<State = Account, Command = AccountCommand> + Drop,
     requires opened { AreNew (shown O.seen S.seen A.seen keeps) }
-    ensures { AreRun (HasRun O.seen S.seen A.seen (AreLeftBy (shown O.seen S.seen A.seen keeps))) (λ _. ⊥) events.items
-        (W.contents out.old) (W.contents out.new) result }
+    ensures { AreRun (HasLeft O.seen S.seen A.seen (AreLeftBy (shown O.seen S.seen A.seen keeps)) result.0) (λ _. ⊥)
+        events.items (W.contents out.old) (W.contents out.new) result.1 }
 {
     let mut world = make_world(alloc, keeps);
     for event in events.as_slice() {
@@ -77,12 +77,12 @@ where
         match write_outcome(out, &outcome) {
             Ok(()) => {}
             // No event after it: what that did would be in the tables and in no output.
-            Err(_) => return Err(RunFault::Device),
+            Err(_) => return (world, Err(RunFault::Device)),
         }
     }
     // What waits in a buffer isn't written yet, and may still fail.
     match out.flush() {
-        Ok(()) => Ok(()),
-        Err(_) => Err(RunFault::Device),
+        Ok(()) => (world, Ok(())),
+        Err(_) => (world, Err(RunFault::Device)),
     }
 }

@@ -1,19 +1,21 @@
 //! Whole schedules: read, run and told.
 
 ghost use Rattle.std.specs.Prelude.{OnErr, IfOk};
-ghost use Rattle.schedule_io.specs.Ends.{IsRunOf, IsRunFrom, IsEndOf, IsUntold};
+ghost use Rattle.schedule_io.specs.Ends.{IsRunFrom, IsEndOf, IsUntold};
 ghost use Rattle.schedule_io.specs.Usage.{IsStatusOf};
-ghost use Rattle.programs.specs.Runs.{HasRun};
+ghost use Rattle.programs.specs.Runs.{HasRun, RunsText};
 
 use crate::running::run_events;
 use schedule_io::{RunFault, Stores, read_all, tell_fault};
+use schedule_runner::World;
 use schedule_text::read_schedule;
 use std::alloc::Global;
 use std::io;
 use std::io::{Read, Write};
 
 /// Reads a schedule from its text and runs it over these stores: nothing is opened or run before the whole of it is
-/// read, and each outcome is written before the next event is made.
+/// read, and each outcome is written before the next event is made. The world that is returned is what the last event
+/// has left.
 ///
 /// # Errors
 /// `BadEvent` with the number of the first faulty line, `Memory` where the events couldn't be held, and `Unopened` where
@@ -24,14 +26,18 @@ pub fn run_text<S: Stores, W: Write>(
     stores: S,
     text: &[u8],
     out: &mut W,
-) -> Result<(), RunFault>
-    ensures { IsRunOf (HasRun S.Orders.seen S.Stocks.seen S.Accounts.seen S.found) S.fails text.now
-        (W.contents out.old) (W.contents out.new) result }
+) -> Result<World<S::Orders, S::Stocks, S::Accounts>, RunFault>
+    ensures { RunsText S.Orders.seen S.Stocks.seen S.Accounts.seen S.found S.fails text.now (W.contents out.old)
+        (W.contents out.new) result }
 {
     // Before the stores: a faulty line leaves no file opened, made or changed.
     let events = read_schedule(alloc, text)?;
     let keeps = stores.open(alloc)?;
-    run_events(alloc, keeps, events, out)
+    let (world, ran) = run_events(alloc, keeps, events, out);
+    match ran {
+        Ok(()) => Ok(world),
+        Err(fault) => Err(fault),
+    }
 }
 
 /// Reads a schedule from `input` and runs it.
@@ -46,7 +52,10 @@ fn read_and_run<S: Stores, R: Read, W: Write>(
 {
     // All of it before a line is looked at: if the reader fails amid a schedule, nothing was run.
     let text = read_all(alloc, input)?;
-    run_text(alloc, stores, text.as_slice(), out)
+    match run_text(alloc, stores, text.as_slice(), out) {
+        Ok(_world) => Ok(()),
+        Err(fault) => Err(fault),
+    }
 }
 
 /// Reads a schedule from `input`, runs it over these stores, and writes the outcome of each line to `out`. A fault is

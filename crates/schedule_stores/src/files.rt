@@ -77,7 +77,9 @@ where
         ⟦<FileKeep<Accounts, B> as Keep>⟧.seen keeps) (λ _. ⊥) events.items (T.contents out.old) (T.contents out.new)
         result }
 {
-    run_events(alloc, keeps, events, out)
+    // The world is dropped here, where the files have any types: the calls above are near the limits of their checks.
+    let (_left, ran) = run_events(alloc, keeps, events, out);
+    ran
 }
 
 /// The same where billing's is a file of the operating system.

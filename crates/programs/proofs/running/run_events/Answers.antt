@@ -1,7 +1,7 @@
 use Rattle.std.proofs.Common.{◌≡◌, length, arith, subst, Ok, Err}
 use Rattle.schedule_io.specs.Ends.{AreRun}
 use Rattle.schedule_io.specs.Opened.{AreLeftBy, shown}
-use Rattle.programs.specs.Runs.{HasRun}
+use Rattle.programs.specs.Runs.{HasLeft}
 use Rattle.schedule_io.specs.declared.fault.RunFault.TheVariants.{Device}
 use Rattle.programs.proofs.Going.{told_none, told_more, all_told, not_flushed, cut_off}
 use Rattle.programs.proofs.running.run_events.Goals as goal
@@ -27,7 +27,7 @@ returns-in-Err g c =
     let stocks = g.S.Keep.seen in
     let accounts = g.A.Keep.seen in
     let left = AreLeftBy (shown orders stocks accounts c.args.keeps) in
-    subst (λ es. AreRun (HasRun orders stocks accounts left) (λ _. ⊥) es (at c.args.out.now)
+    subst (λ es. AreRun (HasLeft orders stocks accounts left c.step-outcome.new.self) (λ _. ⊥) es (at c.args.out.now)
     (at c.write_outcome.new.out) (Err Device))
     c.as_slice-event-items.ensures.value
     (cut_off orders stocks accounts left c.make_world-world.result c.make_world-world.ensures
@@ -43,7 +43,7 @@ returns-in-Ok-flush g c =
     let accounts = g.A.Keep.seen in
     let left = AreLeftBy (shown orders stocks accounts c.args.keeps) in
     let all : c.loop-event.event-index ≡ length c.as_slice-event-items.result.now = omega arith in
-    subst (λ es. AreRun (HasRun orders stocks accounts left) (λ _. ⊥) es (at c.args.out.now) (at c.flush.new.self) (Ok tt))
+    subst (λ es. AreRun (HasLeft orders stocks accounts left c.loop-event.world) (λ _. ⊥) es (at c.args.out.now) (at c.flush.new.self) (Ok tt))
     c.as_slice-event-items.ensures.value
     (all_told orders stocks accounts left c.make_world-world.result c.make_world-world.ensures
     c.as_slice-event-items.result.now c.loop-event.event-index c.loop-event.world (at c.args.out.now)
@@ -56,7 +56,7 @@ returns g c =
     let stocks = g.S.Keep.seen in
     let accounts = g.A.Keep.seen in
     let left = AreLeftBy (shown orders stocks accounts c.args.keeps) in
-    subst (λ es. AreRun (HasRun orders stocks accounts left) (λ _. ⊥) es (at c.args.out.now) (at c.flush.new.self)
+    subst (λ es. AreRun (HasLeft orders stocks accounts left c.loop-event.world) (λ _. ⊥) es (at c.args.out.now) (at c.flush.new.self)
     (Err Device))
     c.as_slice-event-items.ensures.value
     (not_flushed orders stocks accounts left c.make_world-world.result c.make_world-world.ensures
