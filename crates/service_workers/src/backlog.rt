@@ -100,10 +100,11 @@ impl Backlog {
         })
     }
 
-    /// Whether all was sent at that moment.
+    /// Whether all was sent at that moment, or at a later one: what was sent since is passed over by its marks. So all kinds
+    /// that are whole get their news by one look, and stay together.
     pub(crate) fn is_whole_at(&self, moment: Moment) -> bool {
         self.whole == Some(moment.number)
-            && self.rows == moment.rows
+            && self.rows >= moment.rows
             && self.changes == moment.changes
     }
 
@@ -230,8 +231,8 @@ impl Backlogs {
         ensures { result ≡ earlier (moment_of self.now.order rows changes)
             (earlier (moment_of self.now.stock rows changes) (moment_of self.now.account rows changes)) }
     {
-        // One moment for all: a kind that was whole at another one gets its news at a later look. The earliest comes first, so
-        // that no kind waits for another for ever while each look finds new rows.
+        // One moment for all: the earliest, so that no kind waits for another for ever while each look finds new rows. With one
+        // look for each moment rows were read twice, which cost 8 % of the CPU time of an order.
         let partners = earlier(
             self.stock.moment(rows, changes),
             self.account.moment(rows, changes),
