@@ -231,8 +231,8 @@ impl Backlogs {
         ensures { result ≡ earlier (moment_of self.now.order rows changes)
             (earlier (moment_of self.now.stock rows changes) (moment_of self.now.account rows changes)) }
     {
-        // One moment for all: the earliest, so that no kind waits for another for ever while each look finds new rows. With one
-        // look for each moment rows were read twice, which cost 8 % of the CPU time of an order.
+        // One moment for all: the earliest, so that no kind waits for another for ever while each look finds new rows. Kinds that
+        // are whole at a later one are served by the same look: else they would stay apart, and rows be read for each of them.
         let partners = earlier(
             self.stock.moment(rows, changes),
             self.account.moment(rows, changes),
